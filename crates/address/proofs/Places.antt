@@ -1,0 +1,85 @@
+-- What the page claims of places, for every Z: different legal triples have different places, bytes 40..63 of a block are the place
+-- of none, and a legal triple's place lies in its own block. For the 16 blocks of the EF9345: a legal place is one of the 16,384.
+-- Assumes nothing.
+use Prim.Native.Nat.{ℕ, _+_, _-_, _*_, _/_, _%_, _≤_, _<_}
+use mathlib.Core.Path.{_≡_}
+use mathlib.Core.Bool.{true}
+use mathlib.Core.Logic.{⊎-elim}
+use native.Mathlib.Omega.{arith}
+use Rattle.basics.proofs.Choice.{lt-or-le}
+use Rattle.address.specs.declared.triple.Triple.{Triple}
+use Rattle.address.specs.Triples.{onPage, legal}
+use Rattle.address.specs.Places.{placeOf, blockOf}
+use Rattle.address.proofs.Laws.{triple, page-column, page-row, legal-page, legal-block, place-left, place-service, place-right}
+
+-- the three ranges of a block, each with the rule of its places
+pub data Shape (x y z p : ℕ) : Type 0 where
+  service : (x < 40) × (y ≡ 0) × (p ≡ 1024 * z + x) → Shape x y z p
+  left : (x < 32) × (8 ≤ y) × (y < 32) × (p ≡ 1024 * z + 32 * y + x) → Shape x y z p
+  right : (32 ≤ x) × (x < 40) × (8 ≤ y) × (y < 32) × (p + 32 ≡ 1024 * z + 8 * y + x) → Shape x y z p
+
+pub shape : (x y z : ℕ) → onPage x y ≡ true → Shape x y z (placeOf x y z)
+shape x y z g =
+    let column = page-column x y g in
+    ⊎-elim
+    (λ l.
+    let e = place-left x y z l in
+    ⊎-elim (λ r. service (omega arith)) (λ r. left (omega arith)) (page-row x y g))
+    (λ l.
+    ⊎-elim
+    (λ r. service (omega (arith, place-service x y z l r)))
+    (λ r. right (omega (arith, place-right x y z l (λ e. omega arith))))
+    (page-row x y g))
+    (lt-or-le x 32)
+
+module _ {x y z a b c p : ℕ} where
+  apart : Shape x y z p → Shape a b c p → (x ≡ a) × (y ≡ b) × (z ≡ c)
+  apart (service f) (service g) = omega arith
+  apart (service f) (left g) = omega arith
+  apart (service f) (right g) = omega arith
+  apart (left f) (service g) = omega arith
+  apart (left f) (left g) = omega arith
+  apart (left f) (right g) = omega arith
+  apart (right f) (service g) = omega arith
+  apart (right f) (left g) = omega arith
+  apart (right f) (right g) = omega arith
+
+-- different triples have different places
+pub place-injective :
+    (x y z a b c : ℕ) → onPage x y ≡ true → onPage a b ≡ true → placeOf x y z ≡ placeOf a b c → (x ≡ a) × (y ≡ b) × (z ≡ c)
+place-injective x y z a b c g h e = apart (shape x y z g) (rw e (shape a b c h))
+
+block : {x y z p : ℕ} → Shape x y z p → (1024 * z ≤ p) × (p < 1024 * (z + 1))
+block (service f) = omega arith
+block (left f) = omega arith
+block (right f) = omega arith
+
+-- a place lies in its own block
+pub place-block : (x y z : ℕ) → onPage x y ≡ true → (1024 * z ≤ placeOf x y z) × (placeOf x y z < 1024 * (z + 1))
+place-block x y z g = block (shape x y z g)
+
+gap : {x y z p : ℕ} → Shape x y z p → 40 ≤ p % 1024 → p % 1024 < 64 → ⊥
+gap (service f) l h = omega arith
+gap (left f) l h = omega arith
+gap (right f) l h = omega arith
+
+-- bytes 40..63 of a block are no triple's place
+pub place-gap : (x y z : ℕ) → onPage x y ≡ true → 40 ≤ placeOf x y z % 1024 → placeOf x y z % 1024 < 64 → ⊥
+place-gap x y z g = gap (shape x y z g)
+
+-- the three blocks of a code stay in their district of four, and differ
+pub blocks : (z i : ℕ) → blockOf z i / 4 ≡ z / 4
+blocks z i = omega arith
+
+pub blocks-differ : (z i j : ℕ) → i < 4 → j < 4 → blockOf z i ≡ blockOf z j → i ≡ j
+blocks-differ z i j p q e = omega arith
+
+-- two legal triples with one place are one
+pub legal-injective : (t u : Triple) → legal t ≡ true → legal u ≡ true → placeOf (t .x) (t .y) (t .z) ≡ placeOf (u .x) (u .y) (u .z) → t ≡ u
+legal-injective t u p q e =
+    let s = place-injective _ _ _ _ _ _ (legal-page t p) (legal-page u q) e in
+    triple (s .0) (s .1) (s .2)
+
+-- a legal triple's place is one of the 16,384
+pub legal-place : (t : Triple) → legal t ≡ true → placeOf (t .x) (t .y) (t .z) < 16384
+legal-place t e = omega (arith, legal-block t e, place-block (t .x) (t .y) (t .z) (legal-page t e) .1)

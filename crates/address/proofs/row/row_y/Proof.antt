@@ -1,0 +1,29 @@
+use mathlib.Core.Logic.{⊎-elim}
+use Rattle.address.proofs.Laws.{row-service, row-from-one}
+use mathlib.Core.Path.{sym}
+use native.Mathlib.Omega.{arith}
+use borrow.Author.Needs.{needs}
+use Rattle.address.proofs.row.row_y.Statement.{statement}
+use Rattle.address.proofs.row.row_y.Tie as tie
+
+returns : tie.Need-returns
+returns c = sym (row-service _ _ (c .if1 .taken))
+
+add-on : tie.Need-add-on
+add-on c = search needs
+
+sub-on : tie.Need-sub-on
+sub-on c = search needs
+
+cast-result : tie.Need-cast-result
+cast-result c = search needs
+
+add-result : tie.Need-add-result
+add-result c = search needs
+
+returns-2 : tie.Need-returns-2
+returns-2 c = let s = c .before .before .before .args in
+    ⊎-elim (λ w. omega (arith, row-from-one (s .yor) (s .row) (c .before .before .if1 .left))) (λ w. omega (arith, row-from-one (s .yor) (s .row) (c .before .before .if1 .left))) (c .before .if2 .came)
+
+pub row-y-spec : {M : Type 1} → statement M
+row-y-spec = tie.close (tie.spec returns add-on sub-on cast-result add-result returns-2)

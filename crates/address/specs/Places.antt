@@ -1,0 +1,16 @@
+-- Where a byte is kept.
+-- Assumes nothing.
+use Prim.Native.Nat.{ℕ, _+_, _-_, _*_, _/_, _%_}
+use lib.Dec.{ltb, eqb}
+use Rattle.basics.specs.Choice.{pick}
+
+-- X below 32: 1024Z + 32Y + X. X from 32, Y = 0: 1024Z + X. X from 32, Y from 8: 1024Z + 8Y + X − 32
+unfoldable pub placeOf : ℕ → ℕ → ℕ → ℕ
+placeOf x y z =
+    pick (ltb x 32) (1024 * z + 32 * y + x)
+    (pick (eqb y 0) (1024 * z + x)
+    (1024 * z + 8 * y + x - 32))
+
+-- blocks Z, Z+1, Z+2, counted modulo 4 inside the district of four blocks: the one i after Z
+abbrev pub blockOf : ℕ → ℕ → ℕ
+blockOf z i = 4 * (z / 4) + (z + i) % 4

@@ -1,0 +1,21 @@
+-- Legal: X 0..39, Y 0 or 8..31, Z 0..15.
+-- Assumes nothing.
+use Prim.Native.Nat.{ℕ}
+use mathlib.Core.Bool.{Bool, _&&_, _||_}
+use lib.Dec.{ltb, leb, eqb}
+use Rattle.address.specs.declared.triple.Triple.{Triple}
+
+-- X 0..39
+abbrev pub legalX : ℕ → Bool
+legalX x = ltb x 40
+
+-- Y 0 or 8..31
+unfoldable pub legalY : ℕ → Bool
+legalY y = eqb y 0 || (leb 8 y && ltb y 32)
+
+-- X and Y are legal: what every law of places asks, whatever Z is
+unfoldable pub onPage : ℕ → ℕ → Bool
+onPage x y = legalX x && legalY y
+
+unfoldable pub legal : Triple → Bool
+legal t = onPage (t .x) (t .y) && ltb (t .z) 16

@@ -1,0 +1,92 @@
+-- Laws of what is asked of a test at the numbers below n: a turn of a loop, its end, and two tests that agree.
+-- Assumes nothing.
+use Prim.Native.Nat.{ℕ, zero, suc, _+_, _<_, _≤_}
+use mathlib.Core.Bool.{Bool, true, false, _||_, false≢true}
+use mathlib.Core.Path.{_≡_, refl, ap, ap₂, sym, _∙_}
+use mathlib.Core.Logic.{_⊎_, inl, inr, ⊎-elim}
+use native.Mathlib.Numerals.{add-one}
+use native.Mathlib.Omega.{arith}
+use Rattle.basics.specs.Choice.{pick, oneIf}
+use Rattle.basics.specs.Below.{anyBelow, countBelow, lastBelow}
+use Rattle.basics.proofs.Choice.{or-left, or-right, or-cases, eq-or-ne, bool-cases}
+
+module _ (f : ℕ → Bool) where
+  pub any-none : anyBelow f 0 ≡ false
+  unfolding anyBelow
+  any-none = refl
+
+  pub any-step : (i : ℕ) → anyBelow f (i + 1) ≡ (anyBelow f i || f i)
+  unfolding anyBelow
+  any-step i = rw add-one
+
+  -- a turn that finds nothing
+  pub any-more : (i : ℕ) → anyBelow f i ≡ false → f i ≡ false → anyBelow f (i + 1) ≡ false
+  any-more i p q = any-step i ∙ ap₂ _||_ p q
+
+  pub any-end : (i n : ℕ) → i ≤ n → n ≤ i → anyBelow f i ≡ false → anyBelow f n ≡ false
+  any-end i n h k p = let e : i ≡ n = omega arith in rw (← e) p
+
+  -- one that passes is enough
+  pub any-hit : (n i : ℕ) → i < n → f i ≡ true → anyBelow f n ≡ true
+  unfolding anyBelow
+  any-hit zero i h e = absurd (omega arith)
+  any-hit (suc n) i h e =
+      ⊎-elim (λ q. or-right (anyBelow f n) (f n) (ap f (sym q) ∙ e)) (λ q. or-left (anyBelow f n) (f n) (any-hit n i (omega arith) e)) (eq-or-ne i n)
+
+  -- where some number passes there is one
+  pub record Passes (n : ℕ) : Type 0 where
+    pub at : ℕ
+    pub low : at < n
+    pub passes : f at ≡ true
+
+  pub any-at : (n : ℕ) → anyBelow f n ≡ true → Passes n
+  unfolding anyBelow
+  any-at zero e = absurd (false≢true e)
+  any-at (suc n) e =
+      ⊎-elim
+      (λ p. let w = any-at n p in record { at = w .at; low = omega (arith, w .low); passes = w .passes })
+      (λ p. record { at = n; low = omega arith; passes = p })
+      (or-cases (anyBelow f n) (f n) e)
+
+  -- where none passes, none does
+  pub any-not : (n i : ℕ) → anyBelow f n ≡ false → i < n → f i ≡ false
+  any-not n i e h =
+      ⊎-elim (λ t. absurd (false≢true (sym e ∙ any-hit n i h t))) (λ t. t) (bool-cases (f i))
+
+  pub count-none : countBelow f 0 ≡ 0
+  unfolding countBelow
+  count-none = refl
+
+  pub count-step : (i : ℕ) → countBelow f (i + 1) ≡ countBelow f i + oneIf (f i)
+  unfolding countBelow
+  count-step i = rw add-one
+
+  pub last-step : (none i : ℕ) → lastBelow none f (i + 1) ≡ pick (f i) i (lastBelow none f i)
+  unfolding lastBelow
+  last-step none i = rw add-one
+
+  -- a turn of a search: one that passes is the answer so far, another leaves it
+  pub last-hit : (none i : ℕ) → f i ≡ true → lastBelow none f (i + 1) ≡ i
+  last-hit none i t = last-step none i ∙ rw t
+
+  pub last-miss : (none i : ℕ) → f i ≡ false → lastBelow none f (i + 1) ≡ lastBelow none f i
+  last-miss none i t = last-step none i ∙ rw t
+
+  -- what is found is below n, or is the answer for none
+  pub last-small : (none n m : ℕ) → none < m → n ≤ m → lastBelow none f n < m
+  unfolding lastBelow
+  last-small none zero m p q = p
+  last-small none (suc n) m p q =
+      ⊎-elim (λ t. rw t (omega arith)) (λ t. rw t (last-small none n m p (omega arith))) (bool-cases (f n))
+
+-- two tests that agree below n
+module _ (f g : ℕ → Bool) where
+  pub any-same : (n : ℕ) → ((i : ℕ) → i < n → f i ≡ g i) → anyBelow f n ≡ anyBelow g n
+  unfolding anyBelow
+  any-same zero h = refl
+  any-same (suc n) h = ap₂ _||_ (any-same n (λ i k. h i (omega arith))) (h n (omega arith))
+
+  pub count-same : (n : ℕ) → ((i : ℕ) → i < n → f i ≡ g i) → countBelow f n ≡ countBelow g n
+  unfolding countBelow
+  count-same zero h = refl
+  count-same (suc n) h = rw (count-same n (λ i k. h i (omega arith)), h n (omega arith))

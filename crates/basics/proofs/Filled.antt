@@ -1,0 +1,144 @@
+-- Laws of a loop that fills a list part by part: what is known of the front after i parts, a turn, and the end.
+-- Of an array made by the function itself only its front is known, `take (k * i) xs`; of a lent slice the rest too, `filled`.
+-- The premises are what a loop's invariant, its test and its callees' contracts give, so that a search finds them.
+-- Assumes nothing.
+use Prim.Native.Nat.{ℕ, zero, suc, _+_, _-_, _*_, _≤_, _<_}
+use mathlib.Core.Path.{_≡_, refl, sym, ap, _∙_}
+use mathlib.Core.List.{List, [], _∷_, _++_, append-assoc, append-nil}
+use native.Mathlib.Nat.{mul-zero, mul-suc, mul-le-mul-left}
+use native.Mathlib.Numerals.{add-one}
+use native.Mathlib.Omega.{arith}
+use lib.ListN.{length, getD, set, take, drop, length-append, length-drop, take-append-drop, drop-of-length-le}
+use lib.Seq.{take-at, drop-at, drop-drop, take-suc, take-suc-set, take-all, length-take-le, sets, sets-eq}
+use borrow.Rule.Slice.PartMut.{putMid, midOf, same-len-mid}
+use Rattle.basics.specs.Parts.{joined, table, partOf}
+use Rattle.basics.proofs.Parts.{Each, joined-zero, joined-more, length-joined}
+
+module _ {A : Type 0} where
+  -- A lent slice: the first i parts, and then what stood there.
+  abbrev pub filled : ℕ → (ℕ → List A) → List A → ℕ → List A
+  filled k part xs₀ i = joined part i ++ drop (k * i) xs₀
+
+  pub filled-none : (k : ℕ) (part : ℕ → List A) (xs₀ : List A) → xs₀ ≡ filled k part xs₀ 0
+  filled-none k part xs₀ = rw (joined-zero, mul-zero)
+
+  pub length-filled :
+      (k : ℕ) (part : ℕ → List A) (xs₀ : List A) (i : ℕ) → Each k part i → k * i ≤ length xs₀ → length (filled k part xs₀ i) ≡ length xs₀
+  length-filled k part xs₀ i e h =
+      let l : length (joined part i) ≡ k * i = length-joined k part i e in
+      length-append (joined part i) (drop (k * i) xs₀) ∙ rw length-drop (omega arith)
+
+  seam :
+      (k : ℕ) (part : ℕ → List A) (xs₀ ys : List A) (i : ℕ) → ys ≡ part i → joined part i ++ (ys ++ drop (k * i + k) xs₀) ≡ filled k part xs₀ (i + 1)
+  seam k part xs₀ ys i q =
+      sym (append-assoc (joined part i) ys (drop (k * i + k) xs₀))
+      ∙ ap (λ (l : List A). (joined part i ++ l) ++ drop (k * i + k) xs₀) q
+      ∙ ap (λ (l : List A). l ++ drop (k * i + k) xs₀) (sym (joined-more part i))
+      ∙ ap (λ (m : ℕ). joined part (i + 1) ++ drop m xs₀) (sym (ap (λ (m : ℕ). k * m) (add-one i) ∙ mul-suc k i))
+
+  -- a turn that leaves a part which is right already
+  pub filled-keep :
+      (k : ℕ) (part : ℕ → List A) (xs₀ : List A) (i : ℕ) → partOf k xs₀ i ≡ part i → filled k part xs₀ i ≡ filled k part xs₀ (i + 1)
+  filled-keep k part xs₀ i q =
+      ap (λ (l : List A). joined part i ++ l) (sym (take-append-drop k (drop (k * i) xs₀)) ∙ ap (λ (l : List A). partOf k xs₀ i ++ l) (drop-drop k (k * i) xs₀))
+      ∙ seam k part xs₀ (partOf k xs₀ i) i q
+
+  -- a turn that lends the part from a, w long, to a function that leaves ys there
+  pub filled-part :
+      (k : ℕ) (part : ℕ → List A) (xs₀ xs ys : List A) (i a w : ℕ)
+      → Each k part i → xs ≡ filled k part xs₀ i → ys ≡ part i → a ≡ k * i → w ≡ k → take a xs ++ (ys ++ drop w (drop a xs)) ≡ filled k part xs₀ (i + 1)
+  filled-part k part xs₀ xs ys i a w e q y qa qw =
+      let l : length (joined part i) ≡ a = length-joined k part i e ∙ sym qa in
+      let front : List A = joined part i in
+      let rest : List A = drop (k * i) xs₀ in
+      ap (λ (z : List A). take a z ++ (ys ++ drop w (drop a z))) q
+      ∙ ap (λ (z : List A). z ++ (ys ++ drop w (drop a (front ++ rest)))) (take-at front rest a l)
+      ∙ ap (λ (z : List A). front ++ (ys ++ drop w z)) (drop-at front rest a l)
+      ∙ ap (λ (z : ℕ). front ++ (ys ++ drop z rest)) qw
+      ∙ ap (λ (z : List A). front ++ (ys ++ z)) (drop-drop k (k * i) xs₀)
+      ∙ seam k part xs₀ ys i y
+
+  pub filled-end :
+      (k : ℕ) (part : ℕ → List A) (xs₀ xs : List A) (n i : ℕ) → xs ≡ filled k part xs₀ i → i ≤ n → n ≤ i → length xs₀ ≡ k * n → xs ≡ joined part n
+  filled-end k part xs₀ xs n i q a b h =
+      let e : i ≡ n = omega arith in
+      q
+      ∙ ap (filled k part xs₀) e
+      ∙ ap (λ (l : List A). joined part n ++ l) (drop-of-length-le xs₀ {i = k * n} (omega arith))
+      ∙ append-nil (joined part n)
+
+  -- An array that the function made: its front. (At a numeral k, `take (k * 0) xs` computes to [].)
+  pub front-none : (part : ℕ → List A) → [] ≡ joined part 0
+  front-none part = sym (joined-zero part)
+
+  -- a turn that stores the part's elements one after the other
+  pub front-sets :
+      (k : ℕ) (part : ℕ → List A) (xs vs : List A) (i a : ℕ)
+      → take (k * i) xs ≡ joined part i → vs ≡ part i → a ≡ k * i → length vs ≡ k → k * i + k ≤ length xs
+      → take (k * (i + 1)) (sets xs a vs) ≡ joined part (i + 1)
+  front-sets k part xs vs i a q y qa lv h =
+      let long : length (take a xs ++ vs) ≡ k * (i + 1) =
+      length-append (take a xs) vs
+      ∙ ap (λ (m : ℕ). m + length vs) (length-take-le a xs (omega arith))
+      ∙ rw (add-one, mul-suc) (omega arith) in
+      ap (take (k * (i + 1))) (sets-eq vs xs a (omega arith))
+      ∙ take-at (take a xs ++ vs) (drop (a + length vs) xs) (k * (i + 1)) long
+      ∙ ap (λ (m : ℕ). take m xs ++ vs) qa
+      ∙ ap (λ (z : List A). z ++ vs) q
+      ∙ ap (λ (z : List A). joined part i ++ z) y
+      ∙ sym (joined-more part i)
+
+  -- a turn that lends the part to a function that leaves src there
+  pub front-lent :
+      (k : ℕ) (part : ℕ → List A) (xs ys src : List A) (i n : ℕ)
+      → i < n → length xs ≡ k * n → take (k * i) xs ≡ joined part i → ys ≡ src → src ≡ part i → ((j : ℕ) → length (part j) ≡ k)
+      → take (k * (i + 1)) (putMid (k * i) (k * i + k - k * i) xs ys) ≡ joined part (i + 1)
+  front-lent k part xs ys src i n l h q e s each =
+      let below : k * i + k ≤ k * n = rw (← mul-suc) (mul-le-mul-left k l) in
+      let ly : length ys ≡ k = ap length (e ∙ s) ∙ each i in
+      let w : ℕ = k * i + k - k * i in
+      let long : length (take (k * i) xs ++ ys) ≡ k * (i + 1) =
+      length-append (take (k * i) xs) ys
+      ∙ ap (λ (m : ℕ). m + length ys) (length-take-le (k * i) xs (omega arith))
+      ∙ rw (add-one, mul-suc) (omega arith) in
+      ap (take (k * (i + 1))) (sym (append-assoc (take (k * i) xs) ys (drop w (drop (k * i) xs))))
+      ∙ take-at (take (k * i) xs ++ ys) (drop w (drop (k * i) xs)) (k * (i + 1)) long
+      ∙ ap (λ (z : List A). z ++ ys) q
+      ∙ ap (λ (z : List A). joined part i ++ z) (e ∙ s)
+      ∙ sym (joined-more part i)
+
+  pub front-end :
+      (k : ℕ) (part : ℕ → List A) (xs : List A) (n i : ℕ) → take (k * i) xs ≡ joined part i → i ≤ n → n ≤ i → length xs ≡ k * n → xs ≡ joined part n
+  front-end k part xs n i q a b h =
+      let e : i ≡ n = omega arith in
+      sym (take-all (k * n) xs (omega arith)) ∙ ap (λ (m : ℕ). take (k * m) xs) (sym e) ∙ q ∙ ap (joined part) e
+
+  -- a part that was lent leaves the length
+  pub part-length : (a w : ℕ) (xs ys : List A) (n : ℕ) → length ys ≡ length (midOf a w xs) → length xs ≡ n → length (putMid a w xs ys) ≡ n
+  part-length a w xs ys n k h = same-len-mid a w xs ys k ∙ h
+
+  -- One element a turn.
+  pub table-set :
+      (f : ℕ → A) (xs : List A) (i : ℕ) (v : A) → take i xs ≡ table f i → v ≡ f i → i < length xs → take (i + 1) (set xs i v) ≡ table f (i + 1)
+  table-set f xs i v q y h =
+      ap (λ (m : ℕ). take m (set xs i v)) (add-one i)
+      ∙ take-suc-set xs i v h
+      ∙ ap (λ (z : A). take i xs ++ (z ∷ [])) y
+      ∙ ap (λ (z : List A). z ++ (f i ∷ [])) q
+      ∙ sym (joined-more (λ j. f j ∷ []) i)
+
+  pub table-end : (f : ℕ → A) (xs : List A) (n i : ℕ) → take i xs ≡ table f i → i ≤ n → n ≤ i → length xs ≡ n → xs ≡ table f n
+  table-end f xs n i q a b h = let e : i ≡ n = omega arith in sym (take-all i xs (omega arith)) ∙ q ∙ ap (table f) e
+
+  -- A copy, one element a turn.
+  pub copy-set :
+      (src xs : List A) (i : ℕ) (d : A) → take i xs ≡ take i src → i < length xs → i < length src → take (i + 1) (set xs i (getD src i d)) ≡ take (i + 1) src
+  copy-set src xs i d q h hs =
+      ap (λ (m : ℕ). take m (set xs i (getD src i d))) (add-one i)
+      ∙ take-suc-set xs i (getD src i d) h
+      ∙ ap (λ (z : List A). z ++ (getD src i d ∷ [])) q
+      ∙ sym (take-suc src i d hs)
+      ∙ ap (λ (m : ℕ). take m src) (sym (add-one i))
+
+  pub copy-end : (src xs : List A) (n i : ℕ) → take i xs ≡ take i src → i ≤ n → n ≤ i → length xs ≡ n → length src ≡ n → xs ≡ src
+  copy-end src xs n i q a b h hs = sym (take-all i xs (omega arith)) ∙ q ∙ take-all i src (omega arith)

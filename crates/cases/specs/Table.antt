@@ -1,0 +1,74 @@
+-- The page's twelve cases as one table: what the definitions give, and what the page says that they give.
+-- Assumes nothing.
+use Prim.Native.Nat.{ℕ}
+use mathlib.Core.Path.{_≡_, refl}
+use mathlib.Core.Bool.{true, false}
+use mathlib.Core.List.{List, [], _∷_, _++_, map}
+use Rattle.basics.specs.Below.{countBelow, lastBelow}
+use Rattle.basics.specs.Parts.{joined}
+use Rattle.address.specs.Triples.{legalY}
+use Rattle.address.specs.Pointers.{mainPointer}
+use Rattle.address.specs.Places.{placeOf}
+use Rattle.address.specs.Rows.{rowY}
+use Rattle.address.specs.Slices.{slicePlaceOf}
+use Rattle.address.specs.declared.slice.SlicePlace.{SlicePlace}
+use Rattle.address.specs.declared.slice.SlicePlace.the-variants.{At, NoByte}
+use Rattle.colour.specs.Colours.{nibbleOf}
+use Rattle.colour.specs.Ranks.{colourOfRank, hasRank, rankOf}
+use Rattle.cell.specs.Cells.{cellOf, bichromeOf, quadrichromeOf, setOf, resolutionOf}
+use Rattle.cell.specs.Slices.{sliceOfTwenty}
+use Rattle.cell.specs.Pixels.{concealed, flashed, inverted, inked, cellLine}
+
+pub record Case : Type 0 where
+  pub given : List ℕ
+  pub wanted : List ℕ
+
+case : List ℕ → List ℕ → Case
+case g w = record { given = g; wanted = w }
+
+-- the place of a triple
+place : ℕ → ℕ → ℕ → List ℕ
+place x y z = placeOf x y z ∷ []
+
+-- the triple that the main pointer's registers name, and its place
+pointer : ℕ → ℕ → List ℕ
+pointer r6 r7 =
+    let t = mainPointer r6 r7 in
+    t .x ∷ t .y ∷ t .z ∷ placeOf (t .x) (t .y) (t .z) ∷ []
+
+placed : SlicePlace → List ℕ
+placed (At p) = p ∷ []
+placed NoByte = []
+
+-- the place of slice nt of the character c in block z
+slice : ℕ → ℕ → ℕ → List ℕ
+slice c z nt = placed (slicePlaceOf c nt z)
+
+-- the bytes of slice 0, whose byte is s, of the cell of three code bytes, with PAT and the phase 0
+line : ℕ → ℕ → ℕ → ℕ → List ℕ
+line c b a s = cellLine (cellOf c b a) 0 0 false 0 s
+
+-- the colours of some ranks
+ranks : ℕ → List ℕ → List ℕ
+ranks palette = map (λ r. nibbleOf (colourOfRank palette r))
+
+pub table : List Case
+table =
+    case (place 39 0 0) (39 ∷ [])
+    ∷ case (place 0 8 0) (256 ∷ [])
+    ∷ case (place 32 8 0) (64 ∷ [])
+    ∷ case (place 39 31 0) (255 ∷ [])
+    ∷ case (place 31 31 15) (16383 ∷ [])
+    ∷ case (pointer 0xA8 0xA6) (38 ∷ 8 ∷ 13 ∷ 13382 ∷ [])
+    ∷ case (slice 0x4B 3 0 ++ slice 0x4B 3 9) (3651 ∷ 3223 ∷ [])
+    ∷ case (line 0x00 0x00 0x70 0x52) (0x70 ∷ 0x00 ∷ 0x07 ∷ 0x07 ∷ [])
+    ∷ case (line 0x00 0xC0 0x5A 0xE4) (0x11 ∷ 0x33 ∷ 0x44 ∷ 0x66 ∷ [])
+    ∷ case (map (sliceOfTwenty true) (2 ∷ 3 ∷ 18 ∷ 19 ∷ [])) (0 ∷ 1 ∷ 8 ∷ 9 ∷ [])
+    ∷ case (map (rowY 31) (1 ∷ 2 ∷ 24 ∷ [])) (31 ∷ 8 ∷ 30 ∷ [])
+    ∷ case (ranks 0x03 (0 ∷ 1 ∷ 2 ∷ 3 ∷ [])) (0 ∷ 1 ∷ 0 ∷ 0 ∷ [])
+    ∷ []
+
+-- every case holds of the definitions that the contracts cite
+pub cases : map (λ c. c .given) table ≡ map (λ c. c .wanted) table
+unfolding table case place pointer placed slice line ranks placeOf legalY slicePlaceOf rowY colourOfRank lastBelow hasRank rankOf countBelow joined cellLine cellOf bichromeOf quadrichromeOf setOf resolutionOf concealed flashed inverted inked sliceOfTwenty
+cases = refl

@@ -1,0 +1,1 @@
+// The page's twelve worked cases, proved together. No code.

@@ -1,0 +1,22 @@
+use borrow.Author.Needs.{needs}
+use Rattle.cell.proofs.look.dye.Statement.{statement}
+use Rattle.cell.proofs.look.dye.Tie as tie
+
+conceal-requires : tie.Need-conceal-requires
+conceal-requires c κs = search needs
+
+flash-requires : tie.Need-flash-requires
+flash-requires c κs = search needs
+
+invert-requires : tie.Need-invert-requires
+invert-requires c κs = search needs
+
+ink-requires : tie.Need-ink-requires
+ink-requires c κs = search needs
+
+returns : tie.Need-returns
+returns c = rw (c .ink .ensures, c .before .invert .ensures, c .before .before .flash .ensures, c .before .before .before .conceal .ensures)
+
+pub dye-spec : {M : Type 1} → statement M
+dye-spec =
+    tie.close (tie.spec conceal-requires flash-requires invert-requires ink-requires returns)

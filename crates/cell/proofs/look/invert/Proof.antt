@@ -1,0 +1,14 @@
+use Rattle.cell.specs.Pixels.{inverted}
+use Rattle.cell.proofs.look.invert.Statement.{statement}
+use Rattle.cell.proofs.look.invert.Tie as tie
+
+returns : tie.Need-returns
+unfolding inverted
+returns c = rw (c .if1 .taken)
+
+returns-2 : tie.Need-returns-2
+unfolding inverted
+returns-2 c = rw (c .if1 .left)
+
+pub invert-spec : {M : Type 1} → statement M
+invert-spec = tie.close (tie.spec returns returns-2)

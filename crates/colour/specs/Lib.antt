@@ -1,0 +1,2 @@
+pub mod Colours
+pub mod Ranks
