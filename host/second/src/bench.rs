@@ -1,0 +1,116 @@
+//! A bench for trials: a processor with the private memory, the ROM and the picture that are lent
+//! to it.
+
+use crate::cell::Cell;
+use crate::marks::MarkRules;
+use crate::operation::Operation;
+use crate::picture::pixel;
+use crate::pointer::Pointer;
+use crate::processor::{Answer, Processor};
+use crate::{LINES, MEMORY, PICTURE, ROM};
+
+#[derive(Clone, Debug, PartialEq, Eq)]
+pub struct Bench {
+    pub processor: Processor,
+    pub memory: Vec<u8>,
+    pub rom: Vec<u8>,
+    pub picture: Vec<u8>,
+}
+
+impl Bench {
+    /// Power-up with zero memory, ROM and picture.
+    pub fn power_up() -> Self {
+        Bench {
+            processor: Processor::power_up(),
+            memory: vec![0; MEMORY],
+            rom: vec![0; ROM],
+            picture: vec![0; PICTURE],
+        }
+    }
+
+    /// A bench whose page can be drawn: origin 8 and first block 0, everything else as at power-up.
+    pub fn drawable() -> Self {
+        let mut bench = Bench::power_up();
+        bench.indirect(7, 8);
+        bench
+    }
+
+    pub fn write(&mut self, address: u8, value: u8) -> Answer {
+        self.processor.write(&mut self.memory, address, value)
+    }
+
+    pub fn read(&mut self, address: u8) -> Answer {
+        self.processor.read(&mut self.memory, address)
+    }
+
+    pub fn turn(&mut self, phase: u8) -> Answer {
+        self.processor.turn(&self.memory, phase)
+    }
+
+    pub fn draw(&mut self) -> Answer {
+        self.processor
+            .draw(&self.memory, &self.rom, &mut self.picture)
+    }
+
+    /// One operation of a sequence under given mark rules.
+    pub fn apply_with<R: MarkRules>(&mut self, rules: &R, operation: Operation) -> Answer {
+        match operation {
+            Operation::Write { address, value } => {
+                self.processor
+                    .write_with(rules, &mut self.memory, address, value)
+            }
+            Operation::Read { address } => {
+                self.processor.read_with(rules, &mut self.memory, address)
+            }
+            Operation::Turn { phase } => self.processor.turn_with(rules, &self.memory, phase),
+            Operation::Draw => self.draw(),
+        }
+    }
+
+    /// IND r with a value.
+    pub fn indirect(&mut self, r: u8, value: u8) -> Answer {
+        self.write(0x21, value);
+        self.write(0x28, 0x80 + r)
+    }
+
+    /// KRF of a cell at X, Y and first block Z through the main pointer.
+    pub fn store_cell(&mut self, pointer: Pointer, cell: Cell) -> Answer {
+        let (down, across) = pointer.main_registers();
+        self.write(0x26, down);
+        self.write(0x27, across);
+        self.write(0x20, 0x00);
+        self.write(0x22, cell.b);
+        self.write(0x23, cell.a);
+        self.write(0x29, cell.c)
+    }
+
+    /// OCT of one byte at X, Y and block Z through the main pointer.
+    pub fn store_byte(&mut self, pointer: Pointer, value: u8) -> Answer {
+        let (down, across) = pointer.main_registers();
+        self.write(0x26, down);
+        self.write(0x27, across);
+        self.write(0x20, 0x30);
+        self.write(0x29, value)
+    }
+
+    /// Ten user slices of a character in a block, from slice 0.
+    pub fn store_slices(&mut self, character: u8, block: usize, slices: [u8; LINES]) {
+        for (slice, value) in slices.into_iter().enumerate() {
+            let pointer = Pointer {
+                x: 4 * slice + usize::from(character % 4),
+                y: usize::from(character / 4 % 32),
+                z: block,
+            };
+            self.store_byte(pointer, value);
+        }
+    }
+
+    /// The eight pixels of one line of a cell in the kept picture, from the left.
+    pub fn pixels(&self, row: usize, column: usize, line: usize) -> [u8; 8] {
+        let mut pixels = [0; 8];
+        for (across, shown) in pixels.iter_mut().enumerate() {
+            *shown = pixel(&self.picture, 10 * row + line, 8 * column + across);
+        }
+        pixels
+    }
+}

@@ -1,0 +1,84 @@
+//! The listed commands, each by its literal bytes.
+
+use crate::pointer::Which;
+
+/// The five indirect registers.
+#[derive(Clone, Copy, Debug, PartialEq, Eq)]
+pub enum Indirect {
+    Tgs,
+    Mat,
+    Pat,
+    Dor,
+    Ror,
+}
+
+#[derive(Clone, Copy, Debug, PartialEq, Eq)]
+pub enum Command {
+    Nop,
+    Ind {
+        register: Indirect,
+        read: bool,
+    },
+    Krf {
+        increment: bool,
+        read: bool,
+    },
+    Oct {
+        pointer: Which,
+        increment: bool,
+        read: bool,
+    },
+}
+
+impl Command {
+    /// The command of a byte, or nothing for a byte that the page does not list (refusal 3).
+    pub fn listed(byte: u8) -> Option<Command> {
+        match byte {
+            0x90 | 0x91 => Some(Command::Nop),
+            0x00 | 0x01 | 0x08 | 0x09 => Some(Command::Krf {
+                increment: byte % 2 == 1,
+                read: byte >= 0x08,
+            }),
+            0x30 | 0x31 | 0x34 | 0x35 | 0x38 | 0x39 | 0x3C | 0x3D => Some(oct(byte - 0x30)),
+            0x80..=0x87 => ind(byte - 0x80, false),
+            0x88..=0x8F => ind(byte - 0x88, true),
+            _ => None,
+        }
+    }
+
+    /// The pointer that the command uses; IND and NOP use none, so that they never get refusal 4.
+    pub fn pointer(self) -> Option<Which> {
+        match self {
+            Command::Nop | Command::Ind { .. } => None,
+            Command::Krf { .. } => Some(Which::Main),
+            Command::Oct { pointer, .. } => Some(pointer),
+        }
+    }
+}
+
+/// IND by its r; "Other r: refusal 3".
+fn ind(r: u8, read: bool) -> Option<Command> {
+    let register = match r {
+        1 => Indirect::Tgs,
+        2 => Indirect::Mat,
+        3 => Indirect::Pat,
+        4 => Indirect::Dor,
+        7 => Indirect::Ror,
+        _ => return None,
+    };
+    Some(Command::Ind { register, read })
+}
+
+/// OCT by what is added to 30: "plus 1 increment, plus 4 auxiliary pointer, plus 8 read".
+fn oct(added: u8) -> Command {
+    let pointer = if added / 4 % 2 == 1 {
+        Which::Auxiliary
+    } else {
+        Which::Main
+    };
+    Command::Oct {
+        pointer,
+        increment: added % 2 == 1,
+        read: added / 8 == 1,
+    }
+}

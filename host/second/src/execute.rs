@@ -1,0 +1,137 @@
+//! The running of a listed command on the state and the private memory.
+
+use crate::address::{code_block, place};
+use crate::command::{Command, Indirect};
+use crate::marks::MarkRules;
+use crate::pointer::{Pointer, Which};
+use crate::processor::Processor;
+use crate::ROWS;
+
+impl Processor {
+    /// Runs the command in R0 and returns 0, or returns refusal 3 or 4 with nothing done.
+    pub(crate) fn execute<R: MarkRules>(&mut self, rules: &R, memory: &mut [u8]) -> u8 {
+        let Some(command) = Command::listed(self.registers[0]) else {
+            return 3;
+        };
+        if let Some(which) = command.pointer() {
+            if !Pointer::of(&self.registers, which).legal() {
+                return 4;
+            }
+            // "An accepted KRF or OCT first clears both LX bits": those are the commands that use a
+            // pointer.
+            self.lx_main = false;
+            self.lx_auxiliary = false;
+        }
+        self.run(rules, memory, command);
+        0
+    }
+
+    fn run<R: MarkRules>(&mut self, rules: &R, memory: &mut [u8], command: Command) {
+        match command {
+            Command::Nop => {}
+            Command::Ind { register, read } => {
+                if read {
+                    self.registers[1] = *self.indirect(register);
+                } else {
+                    self.set_indirect(rules, register);
+                }
+            }
+            Command::Krf { increment, read } => {
+                self.long_code(rules, memory, read);
+                if increment {
+                    self.increment(Which::Main);
+                }
+            }
+            Command::Oct {
+                pointer,
+                increment,
+                read,
+            } => {
+                self.one_byte(rules, memory, pointer, read);
+                if increment {
+                    self.increment(pointer);
+                }
+            }
+        }
+    }
+
+    fn indirect(&mut self, register: Indirect) -> &mut u8 {
+        match register {
+            Indirect::Tgs => &mut self.tgs,
+            Indirect::Mat => &mut self.mat,
+            Indirect::Pat => &mut self.pat,
+            Indirect::Dor => &mut self.dor,
+            Indirect::Ror => &mut self.ror,
+        }
+    }
+
+    /// R1 to an indirect register. "A changed value" compares whole bytes, also the bits that the
+    /// drawing ignores, and marks also while a draw would be refused.
+    fn set_indirect<R: MarkRules>(&mut self, rules: &R, register: Indirect) {
+        let value = self.registers[1];
+        if *self.indirect(register) == value {
+            return;
+        }
+        *self.indirect(register) = value;
+        if rules.register_marks(register) {
+            self.marks = [true; ROWS];
+        }
+    }
+
+    /// KRF's three bytes: "R1, R2, R3 are the C, B, A bytes", in that order in blocks Z, Z+1, Z+2
+    /// of the district. They are three stores, each with the lists just before it.
+    fn long_code<R: MarkRules>(&mut self, rules: &R, memory: &mut [u8], read: bool) {
+        let pointer = Pointer::of(&self.registers, Which::Main);
+        for byte in 0..3 {
+            let place = place(pointer.x, pointer.y, code_block(pointer.z, byte));
+            if read {
+                self.registers[1 + byte] = memory[place];
+            } else {
+                self.store(rules, memory, place, self.registers[1 + byte]);
+            }
+        }
+    }
+
+    /// OCT: R1 with one byte.
+    fn one_byte<R: MarkRules>(&mut self, rules: &R, memory: &mut [u8], which: Which, read: bool) {
+        let place = Pointer::of(&self.registers, which).place();
+        if read {
+            self.registers[1] = memory[place];
+        } else {
+            self.store(rules, memory, place, self.registers[1]);
+        }
+    }
+
+    /// One store: it marks before it changes the byte. "While a draw would get 7 or 8, a store or
+    /// phase change marks nothing". A row that is marked already need not be asked again.
+    fn store<R: MarkRules>(&mut self, rules: &R, memory: &mut [u8], place: usize, value: u8) {
+        if memory[place] == value {
+            return;
+        }
+        if self.page_refusal().is_none() {
+            let page = self.page(memory);
+            for row in 0..ROWS {
+                if !self.marks[row] && rules.store_marks(&page, row, place) {
+                    self.marks[row] = true;
+                }
+            }
+        }
+        memory[place] = value;
+    }
+
+    /// "Increment adds 1 to X of the pointer used; from 39 X goes to 0 and its LX bit is set. Y and
+    /// the block stay." Bits 7 and 6 of the register are the block's.
+    fn increment(&mut self, which: Which) {
+        let (number, lx) = match which {
+            Which::Main => (7, &mut self.lx_main),
+            Which::Auxiliary => (5, &mut self.lx_auxiliary),
+        };
+        let across = &mut self.registers[number];
+        if *across % 64 == 39 {
+            *across -= 39;
+            *lx = true;
+        } else {
+            *across += 1;
+        }
+    }
+}

@@ -1,0 +1,48 @@
+//! The second program: a naive model of the whole base of the rules page, written from the page
+//! alone.
+//!
+//! It says each rule as literally as it can, pixel by pixel and place by place, so that a reader
+//! can hold it beside the page, and so that it can stand in judgement over another program.
+
+pub mod address;
+pub mod bench;
+pub mod bichrome;
+pub mod cell;
+pub mod colour;
+pub mod command;
+mod execute;
+pub mod half;
+pub mod marks;
+pub mod operation;
+pub mod page;
+pub mod panel;
+pub mod picture;
+pub mod pointer;
+pub mod processor;
+pub mod quadrichrome;
+pub mod random;
+pub mod reading;
+pub mod sequence;
+pub mod slip;
+
+pub use operation::Operation;
+pub use panel::panel;
+pub use processor::{Answer, Processor};
+pub use slip::Slip;
+
+/// The bytes of private memory: sixteen blocks of 1,024.
+pub const MEMORY: usize = 16_384;
+/// The bytes of the ROM: five sets of 128 characters of ten slices.
+pub const ROM: usize = 6_400;
+/// The bytes of the picture: 250 lines of 160.
+pub const PICTURE: usize = 40_000;
+/// The rows of the screen, the service row among them.
+pub const ROWS: usize = 25;
+/// The cells of a row.
+pub const COLUMNS: usize = 40;
+/// The lines of a row, which are also the slices of a character.
+pub const LINES: usize = 10;
+/// The bytes of one packed line.
+pub const LINE: usize = 160;
+/// The bytes of one row of the picture.
+pub const ROW: usize = 1_600;

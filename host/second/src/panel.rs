@@ -1,0 +1,26 @@
+//! The program `panel` as a function from standard input to what it prints.
+
+use crate::bench::Bench;
+use crate::LINE;
+
+/// "Starts from power-up with zero memory, ROM and picture, reads byte pairs (address, value) as
+/// writes, draws, and prints two lines". Lines are counted from 0.
+pub fn panel(input: &[u8]) -> String {
+    let mut bench = Bench::power_up();
+    let mut last = 0;
+    for pair in input.chunks_exact(2) {
+        last = bench.write(pair[0], pair[1]).number;
+    }
+    let draw = bench.draw();
+    let shown: Vec<String> = bench.picture[10 * LINE..10 * LINE + 8]
+        .iter()
+        .map(|byte| format!("{byte:02X}"))
+        .collect();
+    format!(
+        "{} {} {}\n{}\n",
+        last,
+        draw.number,
+        draw.value,
+        shown.join(" ")
+    )
+}

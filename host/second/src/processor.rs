@@ -1,0 +1,232 @@
+//! The processor's state and what a host may ask of it: accesses, the phase change and the draw.
+
+use std::collections::BTreeSet;
+
+use crate::marks::{MarkRules, PageRules};
+use crate::page::Page;
+use crate::picture::View;
+use crate::{reading, MEMORY, PICTURE, ROM, ROW, ROWS};
+
+/// The whole state. Private memory, ROM and picture are the host's and are lent to each call.
+#[derive(Clone, Debug, PartialEq, Eq)]
+pub struct Processor {
+    /// R0 to R7 as written; R0 is the command, while R0 read is the status.
+    pub registers: [u8; 8],
+    pub tgs: u8,
+    pub mat: u8,
+    pub pat: u8,
+    pub dor: u8,
+    pub ror: u8,
+    pub lx_main: bool,
+    pub lx_auxiliary: bool,
+    pub phase: u8,
+    pub marks: [bool; ROWS],
+}
+
+/// What is handed back: the number of the page's table, and a value; the value of a draw is its
+/// rows.
+#[derive(Clone, Copy, Debug, PartialEq, Eq)]
+pub struct Answer {
+    pub number: u8,
+    pub value: u8,
+}
+
+impl Answer {
+    /// A refusal with value 0, or 0 rows.
+    fn refusal(number: u8) -> Answer {
+        Answer { number, value: 0 }
+    }
+}
+
+impl Processor {
+    /// "Power-up: all registers and both LX bits 0, command 91 hex, phase 0, every row marked".
+    pub fn power_up() -> Self {
+        Processor {
+            registers: [0x91, 0, 0, 0, 0, 0, 0, 0],
+            tgs: 0,
+            mat: 0,
+            pat: 0,
+            dor: 0,
+            ror: 0,
+            lx_main: false,
+            lx_auxiliary: false,
+            phase: 0,
+            marks: [true; ROWS],
+        }
+    }
+
+    pub fn write(&mut self, memory: &mut [u8], address: u8, value: u8) -> Answer {
+        self.write_with(&PageRules, memory, address, value)
+    }
+
+    pub fn read(&mut self, memory: &mut [u8], address: u8) -> Answer {
+        self.read_with(&PageRules, memory, address)
+    }
+
+    /// The phase change.
+    pub fn turn(&mut self, memory: &[u8], phase: u8) -> Answer {
+        self.turn_with(&PageRules, memory, phase)
+    }
+
+    /// A write under given mark rules. The access comes first, then the command runs.
+    pub fn write_with<R: MarkRules>(
+        &mut self,
+        rules: &R,
+        memory: &mut [u8],
+        address: u8,
+        value: u8,
+    ) -> Answer {
+        if let Some(number) = access_refusal(memory, address) {
+            return Answer::refusal(number);
+        }
+        self.registers[usize::from(address % 8)] = value;
+        let number = self.execute_if_asked(rules, memory, address);
+        Answer { number, value: 0 }
+    }
+
+    /// A read under given mark rules. It returns the value from before the command, also with
+    /// refusals 3 and 4.
+    pub fn read_with<R: MarkRules>(&mut self, rules: &R, memory: &mut [u8], address: u8) -> Answer {
+        if let Some(number) = access_refusal(memory, address) {
+            return Answer::refusal(number);
+        }
+        let value = match address % 8 {
+            0 => self.status(),
+            register => self.registers[usize::from(register)],
+        };
+        let number = self.execute_if_asked(rules, memory, address);
+        Answer { number, value }
+    }
+
+    /// The phase change under given mark rules. Setting the present phase again marks nothing.
+    pub fn turn_with<R: MarkRules>(&mut self, rules: &R, memory: &[u8], phase: u8) -> Answer {
+        if memory.len() != MEMORY {
+            return Answer::refusal(1);
+        }
+        if phase != 0 && phase != 1 {
+            return Answer::refusal(9);
+        }
+        if phase != self.phase && self.page_refusal().is_none() {
+            let page = self.page(memory);
+            for row in 0..ROWS {
+                if rules.phase_marks(&page, row) {
+                    self.marks[row] = true;
+                }
+            }
+        }
+        self.phase = phase;
+        Answer {
+            number: 0,
+            value: 0,
+        }
+    }
+
+    /// "An accepted draw redraws the marked rows and no other byte, returns their number and clears
+    /// the marks."
+    pub fn draw(&mut self, memory: &[u8], rom: &[u8], picture: &mut [u8]) -> Answer {
+        if let Some(number) = self.draw_refusal(memory, rom, picture) {
+            return Answer::refusal(number);
+        }
+        let view = self.view(memory, rom);
+        let mut rows = 0;
+        for row in 0..ROWS {
+            if self.marks[row] {
+                picture[ROW * row..ROW * (row + 1)].copy_from_slice(&view.row(row));
+                rows += 1;
+            }
+        }
+        self.marks = [false; ROWS];
+        Answer {
+            number: 0,
+            value: rows,
+        }
+    }
+
+    /// R0 read: "bit 7 busy, 6 set if either LX is set, 5 LXm, 4 LXa, others 0". Busy reads 0.
+    pub fn status(&self) -> u8 {
+        let mut status = 0;
+        if self.lx_main || self.lx_auxiliary {
+            status += 0x40;
+        }
+        if self.lx_main {
+            status += 0x20;
+        }
+        if self.lx_auxiliary {
+            status += 0x10;
+        }
+        status
+    }
+
+    /// All 25 rows drawn afresh. The page must be drawable and the buffers of the right lengths.
+    pub fn fresh(&self, memory: &[u8], rom: &[u8]) -> Vec<u8> {
+        let view = self.view(memory, rom);
+        (0..ROWS).flat_map(|row| view.row(row)).collect()
+    }
+
+    /// The reading list of a row of the shown page.
+    pub fn reading_list(&self, memory: &[u8], row: usize) -> BTreeSet<usize> {
+        reading::list(&self.page(memory), row)
+    }
+
+    /// The refusal 7 or 8 that a draw would get from TGS, PAT and ROR alone.
+    pub fn page_refusal(&self) -> Option<u8> {
+        if self.tgs >= 0x20 || self.pat >= 0x80 {
+            Some(7)
+        } else if self.ror % 32 < 8 {
+            Some(8)
+        } else {
+            None
+        }
+    }
+
+    /// The page that ROR and DOR show in a memory.
+    pub fn page<'a>(&self, memory: &'a [u8]) -> Page<'a> {
+        Page {
+            ror: self.ror,
+            dor: self.dor,
+            memory,
+        }
+    }
+
+    fn view<'a>(&self, memory: &'a [u8], rom: &'a [u8]) -> View<'a> {
+        View {
+            page: self.page(memory),
+            rom,
+            pat: self.pat,
+            phase: self.phase,
+        }
+    }
+
+    /// Draw is checked 1, 5, 6, 7, 8.
+    fn draw_refusal(&self, memory: &[u8], rom: &[u8], picture: &[u8]) -> Option<u8> {
+        if memory.len() != MEMORY {
+            Some(1)
+        } else if rom.len() != ROM {
+            Some(5)
+        } else if picture.len() != PICTURE {
+            Some(6)
+        } else {
+            self.page_refusal()
+        }
+    }
+
+    /// "Bit 3 asks for execution"; without it the access is accepted as it stands.
+    fn execute_if_asked<R: MarkRules>(&mut self, rules: &R, memory: &mut [u8], address: u8) -> u8 {
+        if address / 8 % 2 == 1 {
+            self.execute(rules, memory)
+        } else {
+            0
+        }
+    }
+}
+
+/// The checks before the register access: 1, then 2.
+fn access_refusal(memory: &[u8], address: u8) -> Option<u8> {
+    if memory.len() != MEMORY {
+        Some(1)
+    } else if address / 16 != 2 {
+        Some(2)
+    } else {
+        None
+    }
+}
