@@ -7,6 +7,7 @@ use mathlib.Core.Logic.{_⊎_, inl, inr, ⊎-elim}
 use native.Mathlib.Omega.{arith}
 use lib.Dec.{ltb, leb, eqb}
 use borrow.Author.Tests.{lt-ltb, le-ltb, le-leb, lt-leb, eq-eqb, ne-eqb, ltb-true, leb-true, eqb-true}
+use Rattle.basics.specs.Choice.{pick}
 use Rattle.basics.proofs.Choice.{and-left, and-right, and-both, or-cases, or-left, or-right}
 use Rattle.address.specs.declared.triple.Triple.{Triple}
 use Rattle.address.specs.Triples.{legalX, legalY, onPage, legal}
@@ -105,12 +106,20 @@ module _ (yor r : ℕ) where
   unfolding rowY
   row-from-one n = simp (ne-eqb r 0 n)
 
+  pub row-small : rowY yor r < 32
+  unfolding rowY
+  row-small = go (eqb r 0)
+    where
+      go : (t : Bool) → pick t 0 (8 + (yor - 8 + r - 1) % 24) < 32
+      go true = omega arith
+      go false = omega arith
+
   -- it is legal
   pub row-legal : legalY (rowY yor r) ≡ true
   unfolding rowY
   row-legal = facts-y _ (go (eqb r 0))
     where
-      go : (t : Bool) → Row (Rattle.basics.specs.Choice.pick t 0 (8 + (yor - 8 + r - 1) % 24))
+      go : (t : Bool) → Row (pick t 0 (8 + (yor - 8 + r - 1) % 24))
       go true = inl refl
       go false = inr (omega arith, omega arith)
 

@@ -6,7 +6,7 @@ use mathlib.Core.Path.{_≡_}
 use mathlib.Core.Bool.{true}
 use mathlib.Core.Logic.{⊎-elim}
 use native.Mathlib.Omega.{arith}
-use Rattle.basics.proofs.Choice.{lt-or-le}
+use Rattle.basics.proofs.Choice.{lt-or-le, eq-or-ne}
 use Rattle.address.specs.declared.triple.Triple.{Triple}
 use Rattle.address.specs.Triples.{onPage, legal}
 use Rattle.address.specs.Places.{placeOf, blockOf}
@@ -83,3 +83,11 @@ legal-injective t u p q e =
 -- a legal triple's place is one of the 16,384
 pub legal-place : (t : Triple) → legal t ≡ true → placeOf (t .x) (t .y) (t .z) < 16384
 legal-place t e = omega (arith, legal-block t e, place-block (t .x) (t .y) (t .z) (legal-page t e) .1)
+
+-- so is the place of any X below 40, Y below 32 and block below 16
+pub place-fits : (x y z : ℕ) → x < 40 → y < 32 → z < 16 → placeOf x y z < 16384
+place-fits x y z p q r =
+    ⊎-elim (λ l. omega (arith, place-left x y z l))
+    (λ l.
+    ⊎-elim (λ e. omega (arith, place-service x y z l e)) (λ n. omega (arith, place-right x y z l n)) (eq-or-ne y 0))
+    (lt-or-le x 32)

@@ -9,10 +9,10 @@ use native.Mathlib.Nat.{mul-zero, mul-suc, mul-le-mul-left}
 use native.Mathlib.Numerals.{add-one}
 use native.Mathlib.Omega.{arith}
 use lib.ListN.{length, getD, set, take, drop, length-append, length-drop, take-append-drop, drop-of-length-le}
-use lib.Seq.{take-at, drop-at, drop-drop, take-suc, take-suc-set, take-all, length-take-le, sets, sets-eq}
+use lib.Seq.{take-at, drop-at, drop-drop, take-suc, take-suc-set, take-all, length-take-le, getD-take, sets, sets-eq}
 use borrow.Rule.Slice.PartMut.{putMid, midOf, same-len-mid}
 use Rattle.basics.specs.Parts.{joined, table, partOf}
-use Rattle.basics.proofs.Parts.{Each, joined-zero, joined-more, length-joined}
+use Rattle.basics.proofs.Parts.{Each, joined-zero, joined-more, length-joined, table-at}
 
 module _ {A : Type 0} where
   -- A lent slice: the first i parts, and then what stood there.
@@ -129,6 +129,10 @@ module _ {A : Type 0} where
 
   pub table-end : (f : ℕ → A) (xs : List A) (n i : ℕ) → take i xs ≡ table f i → i ≤ n → n ≤ i → length xs ≡ n → xs ≡ table f n
   table-end f xs n i q a b h = let e : i ≡ n = omega arith in sym (take-all i xs (omega arith)) ∙ q ∙ ap (table f) e
+
+  -- an element of the front
+  pub table-front : (f : ℕ → A) (xs : List A) (i k : ℕ) (d : A) → take i xs ≡ table f i → k < i → getD xs k d ≡ f k
+  table-front f xs i k d q h = sym (getD-take i xs k d h) ∙ ap (λ (z : List A). getD z k d) q ∙ table-at f i k d h
 
   -- A copy, one element a turn.
   pub copy-set :

@@ -1,0 +1,170 @@
+use mathlib.Core.Path.{sym, _∙_}
+use native.Mathlib.Omega.{arith}
+use Rattle.basics.specs.Parts.{joined}
+use Rattle.page.proofs.Halves.{lower-service, lower-turned, lower-none}
+use borrow.Author.Needs.{needs}
+use Prim.Native.Nat.{ℕ, _<_}
+use borrow.Fn.Kinds.{In}
+use borrow.Fn.PlainCycle.{Measures, is, falls, and}
+use Rattle.page.proofs.half.lower_halves.Reads as lower-halves
+use Rattle.page.proofs.half.lower_halves.Kinds as lower-halves-kinds
+use Rattle.page.proofs.half.+lower_halves.Lts-lower_halves as lower-halves-lts
+use Rattle.page.proofs.code.row_buffer.Reads as row-buffer-reads
+use Rattle.page.proofs.half.some_go_on.Reads as some-go-on-reads
+use Rattle.page.proofs.half.turned.Reads as turned-reads
+use Rattle.page.proofs.half.+lower_halves.{statement}
+use Rattle.page.proofs.half.+lower_halves.Tie.{close}
+
+abbrev μ-lower-halves : Measures 1 lower-halves-kinds.ps ℕ
+μ-lower-halves κs a = a .1 .1 .0
+
+abbrev lower-halves-at : ℕ → In 1 lower-halves-kinds.ps
+lower-halves-at t =
+    and 1 lower-halves-kinds.ps (is 1 lower-halves-kinds.ps μ-lower-halves t) lower-halves.Pre
+
+abbrev lower-halves-below : ℕ → In 1 lower-halves-kinds.ps
+lower-halves-below t =
+    and
+    1
+    lower-halves-kinds.ps
+    (falls 1 lower-halves-kinds.ps _<_ μ-lower-halves t)
+    lower-halves.Pre
+
+lower-halves-returns : (t : ℕ) → lower-halves-lts.Need-returns (
+  row-buffer-reads.Asked,
+  row-buffer-reads.Learnt,
+  some-go-on-reads.Asked,
+  some-go-on-reads.Learnt,
+  lower-halves-below t,
+  lower-halves.Post,
+  turned-reads.Asked,
+  turned-reads.Learnt,
+) (lower-halves-at t) lower-halves.Post
+unfolding joined
+lower-halves-returns t c = lower-service _ _ _ (c .if1 .taken)
+
+lower-halves-sub-row-buffer : (t : ℕ) → lower-halves-lts.Need-sub-row-buffer (
+  row-buffer-reads.Asked,
+  row-buffer-reads.Learnt,
+  some-go-on-reads.Asked,
+  some-go-on-reads.Learnt,
+  lower-halves-below t,
+  lower-halves.Post,
+  turned-reads.Asked,
+  turned-reads.Learnt,
+) (lower-halves-at t) lower-halves.Post
+lower-halves-sub-row-buffer t c = search needs
+
+lower-halves-row-buffer-requires : (t : ℕ) → lower-halves-lts.Need-row-buffer-requires (
+  row-buffer-reads.Asked,
+  row-buffer-reads.Learnt,
+  some-go-on-reads.Asked,
+  some-go-on-reads.Learnt,
+  lower-halves-below t,
+  lower-halves.Post,
+  turned-reads.Asked,
+  turned-reads.Learnt,
+) (lower-halves-at t) lower-halves.Post
+lower-halves-row-buffer-requires t c κs = search needs
+
+lower-halves-some-go-on-requires : (t : ℕ) → lower-halves-lts.Need-some-go-on-requires (
+  row-buffer-reads.Asked,
+  row-buffer-reads.Learnt,
+  some-go-on-reads.Asked,
+  some-go-on-reads.Learnt,
+  lower-halves-below t,
+  lower-halves.Post,
+  turned-reads.Asked,
+  turned-reads.Learnt,
+) (lower-halves-at t) lower-halves.Post
+lower-halves-some-go-on-requires t c κs = search needs
+
+lower-halves-sub-lower-halves : (t : ℕ) → lower-halves-lts.Need-sub-lower-halves (
+  row-buffer-reads.Asked,
+  row-buffer-reads.Learnt,
+  some-go-on-reads.Asked,
+  some-go-on-reads.Learnt,
+  lower-halves-below t,
+  lower-halves.Post,
+  turned-reads.Asked,
+  turned-reads.Learnt,
+) (lower-halves-at t) lower-halves.Post
+lower-halves-sub-lower-halves t c = search needs
+
+lower-halves-lower-halves-requires : (t : ℕ) → lower-halves-lts.Need-lower-halves-requires (
+  row-buffer-reads.Asked,
+  row-buffer-reads.Learnt,
+  some-go-on-reads.Asked,
+  some-go-on-reads.Learnt,
+  lower-halves-below t,
+  lower-halves.Post,
+  turned-reads.Asked,
+  turned-reads.Learnt,
+) (lower-halves-at t) lower-halves.Post
+lower-halves-lower-halves-requires t c κs = (omega arith, (search needs, c .before .before .row-buffer .ensures))
+
+lower-halves-turned-requires : (t : ℕ) → lower-halves-lts.Need-turned-requires (
+  row-buffer-reads.Asked,
+  row-buffer-reads.Learnt,
+  some-go-on-reads.Asked,
+  some-go-on-reads.Learnt,
+  lower-halves-below t,
+  lower-halves.Post,
+  turned-reads.Asked,
+  turned-reads.Learnt,
+) (lower-halves-at t) lower-halves.Post
+lower-halves-turned-requires t c κs = search needs
+
+lower-halves-returns-2 : (t : ℕ) → lower-halves-lts.Need-returns-2 (
+  row-buffer-reads.Asked,
+  row-buffer-reads.Learnt,
+  some-go-on-reads.Asked,
+  some-go-on-reads.Learnt,
+  lower-halves-below t,
+  lower-halves.Post,
+  turned-reads.Asked,
+  turned-reads.Learnt,
+) (lower-halves-at t) lower-halves.Post
+lower-halves-returns-2 t c =
+    let b = c .before .before .before .before in
+    let s = b .before .before .before in
+    c .turned .ensures ∙ lower-turned _ _ _ (b .before .if1 .left) _ _ (s .pre .1 .1) (b .row-buffer .ensures) _ (c .before .lower-halves .ensures)
+
+lower-halves-returns-3 : (t : ℕ) → lower-halves-lts.Need-returns-3 (
+  row-buffer-reads.Asked,
+  row-buffer-reads.Learnt,
+  some-go-on-reads.Asked,
+  some-go-on-reads.Learnt,
+  lower-halves-below t,
+  lower-halves.Post,
+  turned-reads.Asked,
+  turned-reads.Learnt,
+) (lower-halves-at t) lower-halves.Post
+unfolding joined
+lower-halves-returns-3 t c =
+    let b = c .before .before in
+    let s = b .before .before .before in
+    lower-none _ _ _ (b .before .if1 .left) _ _ (s .pre .1 .1) (b .row-buffer .ensures) (sym (c .before .some-go-on .ensures) ∙ c .if2 .left)
+
+pub +lower-halves-spec : {M : Type 1} → statement M
++lower-halves-spec = close μ-lower-halves λ t. lower-halves-lts.spec (
+  row-buffer-reads.Asked,
+  row-buffer-reads.Learnt,
+  some-go-on-reads.Asked,
+  some-go-on-reads.Learnt,
+  lower-halves-below t,
+  lower-halves.Post,
+  turned-reads.Asked,
+  turned-reads.Learnt,
+)
+    (lower-halves-at t)
+    lower-halves.Post
+    (lower-halves-returns t)
+    (lower-halves-sub-row-buffer t)
+    (lower-halves-row-buffer-requires t)
+    (lower-halves-some-go-on-requires t)
+    (lower-halves-sub-lower-halves t)
+    (lower-halves-lower-halves-requires t)
+    (lower-halves-turned-requires t)
+    (lower-halves-returns-2 t)
+    (lower-halves-returns-3 t)

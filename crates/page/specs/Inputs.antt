@@ -1,0 +1,55 @@
+-- All that a row takes from private memory.
+-- Assumes nothing.
+use Prim.Native.Nat.{ℕ}
+use mathlib.Core.Bool.{Bool, false}
+use mathlib.Core.List.{List, []}
+use lib.ListN.{getD}
+use Rattle.basics.specs.Parts.{table}
+use Rattle.cell.specs.declared.kind.Cell.{Cell}
+use Rattle.cell.specs.Cells.{cellOf}
+use Rattle.page.specs.Codes.{codeAt}
+use Rattle.page.specs.Halves.{lowerHalf, rightHalf}
+use Rattle.page.specs.Sources.{cellSource, characterOf, keptSlice, romSlice}
+use Rattle.page.specs.declared.source.Source.{Source}
+use Rattle.page.specs.declared.source.Source.the-variants.{Rom, Block}
+
+-- the cell of three code bytes
+abbrev pub decoded : List ℕ → Cell
+decoded code = cellOf (getD code 0 0) (getD code 1 0) (getD code 2 0)
+
+-- a cell's slices: the number of a ROM set, or the ten that private memory has
+pub data Slices : Type 0 where
+  fromRom : ℕ → Slices
+  fromMemory : List ℕ → Slices
+
+abbrev pub takenFrom : List ℕ → ℕ → Source → Slices
+takenFrom m c (Rom set) = fromRom set
+takenFrom m c (Block z) = fromMemory (table (keptSlice m c z) 10)
+
+-- slice n, once the ROM is there
+abbrev pub sliceByte : List ℕ → ℕ → Slices → ℕ → ℕ
+sliceByte rom c (fromRom set) n = romSlice rom c set n
+sliceByte rom c (fromMemory slices) n = getD slices n 0
+
+-- what a cell takes: its code, its slices and its halves
+pub record CellInput : Type 0 where
+  pub code : List ℕ
+  pub slices : Slices
+  pub lower : Bool
+  pub right : Bool
+
+unfoldable pub cellInput : ℕ → ℕ → List ℕ → ℕ → ℕ → CellInput
+cellInput ror dor m r x =
+    record {
+      code = codeAt ror m r x;
+      slices = takenFrom m (characterOf (decoded (codeAt ror m r x))) (cellSource dor (decoded (codeAt ror m r x)));
+      lower = lowerHalf ror m r x;
+      right = rightHalf ror m r x;
+    }
+
+-- past the last column
+abbrev pub noInput : CellInput
+noInput = record { code = []; slices = fromRom 0; lower = false; right = false }
+
+unfoldable pub rowInput : ℕ → ℕ → List ℕ → ℕ → List CellInput
+rowInput ror dor m r = table (cellInput ror dor m r) 40

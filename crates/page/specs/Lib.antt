@@ -1,0 +1,4 @@
+pub mod Codes
+pub mod Halves
+pub mod Sources
+pub mod Inputs

@@ -1,0 +1,139 @@
+// Which half a double height or a double width cell shows.
+ghost use mathlib.Core.Path.{_≡_};
+ghost use mathlib.Core.Bool.{not, _&&_};
+ghost use Prim.Native.Nat.{_-_, _<_};
+ghost use lib.ListN.{length};
+ghost use Rattle.basics.specs.Below.{anyBelow};
+ghost use Rattle.basics.specs.Parts.{table};
+ghost use Rattle.page.specs.Codes.{rowBuffer};
+ghost use Rattle.page.specs.Halves.{isTall, isWide, sameCode, goesOn, lowerHalves, rightIn, turnedAt, goesOnAt, KnownAbove};
+use crate::code::row_buffer;
+
+// Bichrome, with B1.
+pub fn is_tall(code: [u8; 3]) -> bool
+    ensures { λ r. ⌜ r ≡ isTall code ⌝ }
+{
+    if code[1] < 192 {
+        return code[1] / 2 % 2 == 1;
+    }
+    false
+}
+
+// Bichrome, with B3.
+pub fn is_wide(code: [u8; 3]) -> bool
+    ensures { λ r. ⌜ r ≡ isWide code ⌝ }
+{
+    if code[1] < 192 {
+        return code[1] / 8 % 2 == 1;
+    }
+    false
+}
+
+pub fn same_code(a: [u8; 3], b: [u8; 3]) -> bool
+    ensures { λ r. ⌜ r ≡ sameCode a b ⌝ }
+{
+    if a[0] != b[0] {
+        return false;
+    }
+    if a[1] != b[1] {
+        return false;
+    }
+    a[2] == b[2]
+}
+
+// A cell that doubles goes on from the cell before it: the same three bytes.
+pub fn goes_on(doubles: bool, code: [u8; 3], before: [u8; 3]) -> bool
+    ensures { λ r. ⌜ r ≡ goesOn doubles code before ⌝ }
+{
+    if doubles {
+        return same_code(code, before);
+    }
+    false
+}
+
+// The right halves of a row: each asked of the cell to its left.
+pub fn right_halves(cells: [[u8; 3]; 40]) -> [bool; 40]
+    ensures { λ r. ⌜ r ≡ table (rightIn cells) 40 ⌝ }
+{
+    let mut halves = [false; 40];
+    for x in 1..40 {
+        let on = goes_on(is_wide(cells[x]), cells[x], cells[x - 1]);
+        let left = halves[x - 1];
+        halves[x] = on & !left;
+    }
+    halves
+}
+
+// Some cell goes on from the cell above it.
+fn some_go_on(here: [[u8; 3]; 40], above: [[u8; 3]; 40]) -> bool
+    ensures { λ r. ⌜ r ≡ anyBelow (goesOnAt here above) 40 ⌝ }
+{
+    let mut found = false;
+    for x in 0..40 {
+        found = found | goes_on(is_tall(here[x]), here[x], above[x]);
+    }
+    found
+}
+
+// The lower halves of a row, from those of the row above.
+fn turned(here: [[u8; 3]; 40], above: [[u8; 3]; 40], halves: [bool; 40]) -> [bool; 40]
+    ensures { λ r. ⌜ r ≡ table (turnedAt here above halves) 40 ⌝ }
+{
+    let mut lower = [false; 40];
+    for x in 0..40 {
+        let on = goes_on(is_tall(here[x]), here[x], above[x]);
+        let over = halves[x];
+        lower[x] = on & !over;
+    }
+    lower
+}
+
+// The lower halves of a row: each asked of the row above, the row number falling to the service row. Where no cell goes on from
+// the one above it, there is nothing to ask.
+pub fn lower_halves(memory: &[u8], ror: u8, row: u8, here: [[u8; 3]; 40]) -> [bool; 40]
+    requires { ⌜ (length (now memory) ≡ 16384) × (here ≡ rowBuffer ror (now memory) row) ⌝ }
+    ensures { λ r. ⌜ r ≡ lowerHalves ror (now (memory .entry)) row ⌝ }
+{
+    if row == 0 {
+        return [false; 40];
+    }
+    let above = row_buffer(memory, ror, row - 1);
+    if some_go_on(here, above) {
+        let halves = lower_halves(memory, ror, row - 1, above);
+        return turned(here, above, halves);
+    }
+    [false; 40]
+}
+
+// The same where those of the row above are known already.
+fn lower_halves_below(
+    memory: &[u8],
+    ror: u8,
+    row: u8,
+    here: [[u8; 3]; 40],
+    halves: [bool; 40],
+) -> [bool; 40]
+    requires { ⌜ (length (now memory) ≡ 16384) × (here ≡ rowBuffer ror (now memory) row) × (0 < row) × (halves ≡ lowerHalves ror (now memory) (row - 1)) ⌝ }
+    ensures { λ r. ⌜ r ≡ lowerHalves ror (now (memory .entry)) row ⌝ }
+{
+    let above = row_buffer(memory, ror, row - 1);
+    turned(here, above, halves)
+}
+
+// The lower halves of a row, by one step where those of the row above are known.
+pub fn lower_halves_after(
+    memory: &[u8],
+    ror: u8,
+    row: u8,
+    here: [[u8; 3]; 40],
+    known: bool,
+    halves: [bool; 40],
+) -> [bool; 40]
+    requires { ⌜ (length (now memory) ≡ 16384) × (here ≡ rowBuffer ror (now memory) row) × KnownAbove ror (now memory) row known halves ⌝ }
+    ensures { λ r. ⌜ r ≡ lowerHalves ror (now (memory .entry)) row ⌝ }
+{
+    if known {
+        return lower_halves_below(memory, ror, row, here, halves);
+    }
+    lower_halves(memory, ror, row, here)
+}

@@ -1,0 +1,68 @@
+use borrow.Author.Needs.{needs}
+use Rattle.picture.proofs.line.line_bytes.Statement.{statement}
+use Rattle.picture.proofs.line.line_bytes.Tie as tie
+
+abbrev Inv-loop : tie.InvT-loop
+Inv-loop n cells lowers tens bytes₀ x₀ bytes x = ?
+
+abbrev μ-loop : tie.MeasureT-loop
+μ-loop n cells lowers tens bytes₀ x₀ bytes x = ?
+
+loop-holds : tie.Need-loop-holds Inv-loop μ-loop
+loop-holds c = ?
+
+mul-ten : tie.Need-mul-ten Inv-loop μ-loop
+mul-ten c = search needs
+
+array-copy-out-ten : tie.Need-array-copy-out-ten Inv-loop μ-loop
+array-copy-out-ten c = search needs
+
+mul-lined : tie.Need-mul-lined Inv-loop μ-loop
+mul-lined c = search needs
+
+array-copy-out-lined : tie.Need-array-copy-out-lined Inv-loop μ-loop
+array-copy-out-lined c = search needs
+
+array-read-lined : tie.Need-array-read-lined Inv-loop μ-loop
+array-read-lined c = search needs
+
+array-read-lined-2 : tie.Need-array-read-lined-2 Inv-loop μ-loop
+array-read-lined-2 c = search needs
+
+lined-requires : tie.Need-lined-requires Inv-loop μ-loop
+lined-requires c κs = search needs
+
+array-write-bytes : tie.Need-array-write-bytes Inv-loop μ-loop
+array-write-bytes c = search needs
+
+add-x : tie.Need-add-x Inv-loop μ-loop
+add-x c = search needs
+
+loop-less : tie.Need-loop-less Inv-loop μ-loop
+loop-less c = ?
+
+loop-again : tie.Need-loop-again Inv-loop μ-loop
+loop-again c = ?
+
+returns : tie.Need-returns Inv-loop μ-loop
+returns c = ?
+
+pub line-bytes-spec : {M : Type 1} → statement M
+line-bytes-spec =
+    tie.close
+    (tie.spec
+    Inv-loop
+    μ-loop
+    loop-holds
+    mul-ten
+    array-copy-out-ten
+    mul-lined
+    array-copy-out-lined
+    array-read-lined
+    array-read-lined-2
+    lined-requires
+    array-write-bytes
+    add-x
+    loop-less
+    loop-again
+    returns)

@@ -1,0 +1,15 @@
+use borrow.Author.Needs.{needs}
+use Rattle.picture.proofs.ten.taken.Statement.{statement}
+use Rattle.picture.proofs.ten.taken.Tie as tie
+
+doubled-requires : tie.Need-doubled-requires
+doubled-requires c κs = search needs
+
+returns : tie.Need-returns
+returns c = ?
+
+returns-2 : tie.Need-returns-2
+returns-2 c = ?
+
+pub taken-spec : {M : Type 1} → statement M
+taken-spec = tie.close (tie.spec doubled-requires returns returns-2)
