@@ -9,9 +9,10 @@ use native.Mathlib.Nat.{mul-zero, mul-suc, mul-le-mul-left}
 use native.Mathlib.Numerals.{add-one}
 use native.Mathlib.Omega.{arith}
 use lib.ListN.{length, getD, set, take, drop, length-append, length-drop, take-append-drop, drop-of-length-le}
-use lib.Seq.{take-at, drop-at, drop-drop, take-suc, take-suc-set, take-all, length-take-le, getD-take, sets, sets-eq}
+use lib.Seq.{take-at, drop-at, drop-drop, take-suc, take-suc-set, take-all, length-take-le, getD-take, ext-getD, sets, sets-eq}
 use borrow.Rule.Slice.PartMut.{putMid, midOf, same-len-mid}
 use Rattle.basics.specs.Parts.{joined, table, partOf}
+use Rattle.basics.proofs.Few.{four}
 use Rattle.basics.proofs.Parts.{Each, joined-zero, joined-more, length-joined, table-at}
 
 module _ {A : Type 0} where
@@ -87,6 +88,22 @@ module _ {A : Type 0} where
       ∙ ap (λ (z : List A). z ++ vs) q
       ∙ ap (λ (z : List A). joined part i ++ z) y
       ∙ sym (joined-more part i)
+
+  -- a turn that stores the four elements of an array
+  pub front-four :
+      (part : ℕ → List A) (xs b : List A) (i n : ℕ) (d : A)
+      → i < n → length xs ≡ 4 * n → take (4 * i) xs ≡ joined part i → b ≡ part i → ((j : ℕ) → length (part j) ≡ 4)
+      → take (4 * (i + 1)) (set (set (set (set xs (4 * i) (getD b 0 d)) (4 * i + 1) (getD b 1 d)) (4 * i + 2) (getD b 2 d)) (4 * i + 3) (getD b 3 d))
+      ≡ joined part (i + 1)
+  front-four part xs b i n d l h q e each =
+      let p1 : 4 * i + 1 ≡ suc (4 * i) = omega arith in
+      let p2 : 4 * i + 2 ≡ suc (suc (4 * i)) = omega arith in
+      let p3 : 4 * i + 3 ≡ suc (suc (suc (4 * i))) = omega arith in
+      rw (p1, p2, p3)
+      (front-sets 4 part xs (getD b 0 d ∷ getD b 1 d ∷ getD b 2 d ∷ getD b 3 d ∷ []) i (4 * i) q (listed (ap length e ∙ each i) ∙ e) refl refl (omega arith))
+    where
+      listed : length b ≡ 4 → (getD b 0 d ∷ getD b 1 d ∷ getD b 2 d ∷ getD b 3 d ∷ []) ≡ b
+      listed s = ext-getD d (getD b 0 d ∷ getD b 1 d ∷ getD b 2 d ∷ getD b 3 d ∷ []) b (sym s) (four _ refl refl refl refl)
 
   -- a turn that lends the part to a function that leaves src there
   pub front-lent :

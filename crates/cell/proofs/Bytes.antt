@@ -37,14 +37,15 @@ module _ (look : Look) (right : Bool) (n s : ℕ) where
   effective-lined e =
       sym (number-same (λ x. underlined (look .underline) n (takenBit (look .wide) right s x)) (λ x. true) 8 (λ x l. rw e) ∙ all-set)
 
+  -- not underlined: the taken bits alone
+  pub effective-taken : (look .underline && eqb n 9) ≡ false → numberOf (takenBit (look .wide) right s) 8 ≡ effectiveOf look right n s
+  unfolding effectiveOf
+  effective-taken e =
+      sym (number-same (λ x. underlined (look .underline) n (takenBit (look .wide) right s x)) (takenBit (look .wide) right s) 8 (λ x l. rw e))
+
   pub effective-wide :
       (look .underline && eqb n 9) ≡ false → look .wide ≡ true → numberOf (takenBit true right s) 8 ≡ effectiveOf look right n s
-  unfolding effectiveOf
-  effective-wide e w =
-      sym (number-same (λ x. underlined (look .underline) n (takenBit (look .wide) right s x)) (takenBit true right s) 8 (λ x l. rw (e, w)))
+  effective-wide e w = ap (λ (t : Bool). numberOf (takenBit t right s) 8) (sym w) ∙ effective-taken e
 
   pub effective-plain : (look .underline && eqb n 9) ≡ false → look .wide ≡ false → s < 256 → s ≡ effectiveOf look right n s
-  unfolding effectiveOf
-  effective-plain e w h =
-      byte-number s h
-      ∙ sym (number-same (λ x. underlined (look .underline) n (takenBit (look .wide) right s x)) (λ x. isSet x s) 8 (λ x l. rw (e, w)))
+  effective-plain e w h = byte-number s h ∙ ap (λ (t : Bool). numberOf (takenBit t right s) 8) (sym w) ∙ effective-taken e

@@ -1,0 +1,3 @@
+pub mod Tens
+pub mod Drawn
+pub mod Redrawing

@@ -65,13 +65,15 @@ pairsOf cells pat phase =
       both = table (pairAt cells pat phase 3) 40;
     }
 
-abbrev pub fourPairs : Pairs → ℕ → List ℕ
-fourPairs pairs x =
-    getD (pairs .none) x 0 ∷ getD (pairs .left) x 0 ∷ getD (pairs .right) x 0 ∷ getD (pairs .both) x 0 ∷ []
+-- four bytes, each the pair that two bits of a byte name
+unfoldable pub fourBy : ℕ → List ℕ → List ℕ
+fourBy byte pairs = table (λ i. getD pairs (bits (2 * i) 2 byte) 0) 4
 
--- the four bytes of cell x on line n
-unfoldable pub fourOn : List (List ℕ) → List Bool → List (List ℕ) → Pairs → ℕ → ℕ → List ℕ
-fourOn cells lowers tens pairs n x = table (λ i. getD (fourPairs pairs x) (bits (2 * i) 2 (byteOn cells lowers tens n x)) 0) 4
+-- the four bytes of cell x
+abbrev pub fourOf : List ℕ → List ℕ → List ℕ → List ℕ → List ℕ → ℕ → List ℕ
+fourOf bytes none left right both x = fourBy (getD bytes x 0) (getD none x 0 ∷ getD left x 0 ∷ getD right x 0 ∷ getD both x 0 ∷ [])
 
-abbrev pub lineOn : List (List ℕ) → List Bool → List (List ℕ) → Pairs → ℕ → List ℕ
-lineOn cells lowers tens pairs n = joined (fourOn cells lowers tens pairs n) 40
+-- line n of a row
+unfoldable pub lineOn : List (List ℕ) → List Bool → List (List ℕ) → Pairs → ℕ → List ℕ
+lineOn cells lowers tens pairs n =
+    joined (fourOf (table (byteOn cells lowers tens n) 40) (pairs .none) (pairs .left) (pairs .right) (pairs .both)) 40

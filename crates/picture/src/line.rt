@@ -2,10 +2,10 @@
 ghost use mathlib.Core.Path.{_≡_};
 ghost use mathlib.Core.Bool.{_&&_};
 ghost use mathlib.Core.List.{[], _∷_};
-ghost use Prim.Native.Nat.{_<_};
+ghost use Prim.Native.Nat.{_<_, _%_};
 ghost use lib.ListN.{getD};
 ghost use Rattle.basics.specs.Parts.{table, joined};
-ghost use Rattle.picture.specs.Lines.{underlineShown, linedByte, byteOn, fourOn};
+ghost use Rattle.picture.specs.Lines.{underlineShown, linedByte, byteOn, fourBy, fourOf, lineOn};
 use crate::pairs::Pairs;
 use cell::decode::decode;
 use cell::height::slice_shown;
@@ -57,10 +57,11 @@ pub fn line_bytes(
     bytes
 }
 
-// One of the four pairs, by two bits of a byte.
-fn chosen(field: u8, none: u8, left: u8, right: u8, both: u8) -> u8
-    ensures { λ r. ⌜ (field < 4 → r ≡ getD (none ∷ left ∷ right ∷ both ∷ []) field 0) ⌝ }
+// One of the four pairs, by the two lowest bits of a number.
+fn chosen(by: u8, none: u8, left: u8, right: u8, both: u8) -> u8
+    ensures { λ r. ⌜ r ≡ getD (none ∷ left ∷ right ∷ both ∷ []) (by % 4) 0 ⌝ }
 {
+    let field = by % 4;
     if field == 0 {
         return none;
     }
@@ -73,7 +74,40 @@ fn chosen(field: u8, none: u8, left: u8, right: u8, both: u8) -> u8
     both
 }
 
-// Line n of a row: four packed bytes for each cell.
+// The four packed bytes of a cell, by its effective byte.
+fn four(by: u8, none: u8, left: u8, right: u8, both: u8) -> [u8; 4]
+    ensures { λ r. ⌜ r ≡ fourBy by (none ∷ left ∷ right ∷ both ∷ []) ⌝ }
+{
+    [
+        chosen(by, none, left, right, both),
+        chosen(by / 4, none, left, right, both),
+        chosen(by / 16, none, left, right, both),
+        chosen(by / 64, none, left, right, both),
+    ]
+}
+
+// The packed line of forty effective bytes.
+fn packed_line(
+    bytes: [u8; 40],
+    none: [u8; 40],
+    left: [u8; 40],
+    right: [u8; 40],
+    both: [u8; 40],
+) -> [u8; 160]
+    ensures { λ r. ⌜ r ≡ joined (fourOf bytes none left right both) 40 ⌝ }
+{
+    let mut line = [0u8; 160];
+    for x in 0..40 {
+        let four = four(bytes[x], none[x], left[x], right[x], both[x]);
+        line[4 * x] = four[0];
+        line[4 * x + 1] = four[1];
+        line[4 * x + 2] = four[2];
+        line[4 * x + 3] = four[3];
+    }
+    line
+}
+
+// Line n of a row.
 pub fn line(
     cells: [[u8; 3]; 40],
     lowers: [bool; 40],
@@ -82,20 +116,11 @@ pub fn line(
     n: usize,
 ) -> [u8; 160]
     requires { ⌜ n < 10 ⌝ }
-    ensures { λ r. ⌜ r ≡ joined (fourOn cells lowers tens pairs n) 40 ⌝ }
+    ensures { λ r. ⌜ r ≡ lineOn cells lowers tens pairs n ⌝ }
 {
-    let bytes = line_bytes(cells, lowers, tens, n);
     let none = pairs.none;
     let left = pairs.left;
     let right = pairs.right;
     let both = pairs.both;
-    let mut out = [0u8; 160];
-    for x in 0..40 {
-        let byte = bytes[x];
-        out[4 * x] = chosen(byte % 4, none[x], left[x], right[x], both[x]);
-        out[4 * x + 1] = chosen(byte / 4 % 4, none[x], left[x], right[x], both[x]);
-        out[4 * x + 2] = chosen(byte / 16 % 4, none[x], left[x], right[x], both[x]);
-        out[4 * x + 3] = chosen(byte / 64 % 4, none[x], left[x], right[x], both[x]);
-    }
-    out
+    packed_line(line_bytes(cells, lowers, tens, n), none, left, right, both)
 }

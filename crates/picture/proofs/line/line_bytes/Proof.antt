@@ -1,15 +1,23 @@
+use Rattle.picture.specs.Lines.{byteOn}
+use Rattle.basics.proofs.Filled.{table-set, table-end}
+use Rattle.basics.specs.Parts.{table, joined}
+use lib.ListN.{length, take, length-set}
+use native.Mathlib.Omega.{arith}
+use mathlib.Core.Path.{_≡_, refl}
+use Prim.Native.Nat.{_≤_, _-_}
 use borrow.Author.Needs.{needs}
 use Rattle.picture.proofs.line.line_bytes.Statement.{statement}
 use Rattle.picture.proofs.line.line_bytes.Tie as tie
 
 abbrev Inv-loop : tie.InvT-loop
-Inv-loop n cells lowers tens bytes₀ x₀ bytes x = ?
+Inv-loop n cells lowers tens bytes₀ x₀ bytes x = (x ≤ 40) × (length bytes ≡ 40) × (take x bytes ≡ table (byteOn cells lowers tens n) x)
 
 abbrev μ-loop : tie.MeasureT-loop
-μ-loop n cells lowers tens bytes₀ x₀ bytes x = ?
+μ-loop n cells lowers tens bytes₀ x₀ bytes x = 40 - x
 
 loop-holds : tie.Need-loop-holds Inv-loop μ-loop
-loop-holds c = ?
+unfolding joined
+loop-holds c = (omega arith, refl, refl)
 
 mul-ten : tie.Need-mul-ten Inv-loop μ-loop
 mul-ten c = search needs
@@ -39,13 +47,14 @@ add-x : tie.Need-add-x Inv-loop μ-loop
 add-x c = search needs
 
 loop-less : tie.Need-loop-less Inv-loop μ-loop
-loop-less c = ?
+loop-less c = omega arith
 
 loop-again : tie.Need-loop-again Inv-loop μ-loop
-loop-again c = ?
+loop-again c = let l = c .before .before .before .before .loop in
+    (omega arith, simp length-set (l .inv .1), table-set _ _ _ _ (l .inv .2) (c .lined .ensures) (omega arith))
 
 returns : tie.Need-returns Inv-loop μ-loop
-returns c = ?
+returns c = let l = c .before .loop in table-end _ _ 40 _ (l .inv .2) (l .inv .0) (omega arith) (l .inv .1)
 
 pub line-bytes-spec : {M : Type 1} → statement M
 line-bytes-spec =

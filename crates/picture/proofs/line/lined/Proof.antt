@@ -1,3 +1,6 @@
+use Rattle.picture.specs.Lines.{linedByte}
+use borrow.Author.Tests.{eq-eqb, ne-eqb}
+use mathlib.Core.Path.{sym, _∙_}
 use borrow.Author.Needs.{needs}
 use Rattle.picture.proofs.line.lined.Statement.{statement}
 use Rattle.picture.proofs.line.lined.Tie as tie
@@ -9,13 +12,20 @@ shows-underline-requires : tie.Need-shows-underline-requires
 shows-underline-requires c κs = search needs
 
 returns : tie.Need-returns
-returns c = ?
+unfolding linedByte
+returns c = let u = c .before in
+    let t = u .before .before in
+    rw (eq-eqb _ _ (t .if1 .taken), ← u .before .decode .ensures, sym (u .shows-underline .ensures) ∙ c .if2 .taken)
 
 returns-2 : tie.Need-returns-2
-returns-2 c = ?
+unfolding linedByte
+returns-2 c = let u = c .before in
+    let t = u .before .before in
+    rw (eq-eqb _ _ (t .if1 .taken), ← u .before .decode .ensures, sym (u .shows-underline .ensures) ∙ c .if2 .left)
 
 returns-3 : tie.Need-returns-3
-returns-3 c = ?
+unfolding linedByte
+returns-3 c = rw (ne-eqb _ _ (c .if1 .left))
 
 pub lined-spec : {M : Type 1} → statement M
 lined-spec =

@@ -1,3 +1,4 @@
+use Rattle.picture.specs.Lines.{underlineShown}
 use borrow.Author.Needs.{needs}
 use Rattle.picture.proofs.line.shows_underline.Statement.{statement}
 use Rattle.picture.proofs.line.shows_underline.Tie as tie
@@ -9,16 +10,20 @@ enum-known-cell : tie.Need-enum-known-cell
 enum-known-cell c = search needs
 
 returns : tie.Need-returns
-returns c = ?
+unfolding underlineShown
+returns c = let s = c .before .before .before .before in
+    rw (s .slice-shown .ensures, c .before .before .cell .given .1, c .if1 .taken)
 
 enum-told : tie.Need-enum-told
 enum-told c = search needs
 
 returns-2 : tie.Need-returns-2
-returns-2 c = ?
+unfolding underlineShown
+returns-2 c = rw (c .before .before .cell .given .1, c .if1 .left)
 
 returns-3 : tie.Need-returns-3
-returns-3 c = ?
+unfolding underlineShown
+returns-3 c = rw (c .enum-told .given .1)
 
 pub shows-underline-spec : {M : Type 1} → statement M
 shows-underline-spec =

@@ -1,15 +1,21 @@
+use lib.ListN.{length}
+use Rattle.basics.proofs.Filled.{copy-set, copy-end}
+use lib.ListN.{length, take, length-set}
+use native.Mathlib.Omega.{arith}
+use mathlib.Core.Path.{_≡_, refl}
+use Prim.Native.Nat.{_≤_, _-_}
 use borrow.Author.Needs.{needs}
 use Rattle.picture.proofs.row.copy_line.Statement.{statement}
 use Rattle.picture.proofs.row.copy_line.Tie as tie
 
 abbrev Inv-loop : tie.InvT-loop
-Inv-loop part₀ line i₀ part i = ?
+Inv-loop part₀ line i₀ part i = (i ≤ 160) × (length part ≡ 160) × (take i part ≡ take i line)
 
 abbrev μ-loop : tie.MeasureT-loop
-μ-loop part₀ line i₀ part i = ?
+μ-loop part₀ line i₀ part i = 160 - i
 
 loop-holds : tie.Need-loop-holds Inv-loop μ-loop
-loop-holds c = ?
+loop-holds c = (omega arith, c .pre, refl)
 
 array-read-part : tie.Need-array-read-part Inv-loop μ-loop
 array-read-part c = search needs
@@ -21,16 +27,20 @@ add-i : tie.Need-add-i Inv-loop μ-loop
 add-i c = search needs
 
 loop-less : tie.Need-loop-less Inv-loop μ-loop
-loop-less c = ?
+loop-less c = omega arith
 
 loop-again : tie.Need-loop-again Inv-loop μ-loop
-loop-again c = ?
+loop-again c = let l = c .before .loop in
+    let n : length (c .before .before .args .t2) ≡ 160 = search needs in
+    (omega arith, simp length-set (l .inv .1), copy-set (c .before .before .args .t2) (l .part) (l .i) 0 (l .inv .2) (omega arith) (omega arith))
 
 same-length : tie.Need-same-length Inv-loop μ-loop
 same-length c = search needs
 
 returns : tie.Need-returns Inv-loop μ-loop
-returns c = ?
+returns c = let l = c .before .loop in
+    let n : length (c .before .before .args .t2) ≡ 160 = search needs in
+    copy-end _ _ 160 _ (l .inv .2) (l .inv .0) (omega arith) (l .inv .1) n
 
 pub copy-line-spec : {M : Type 1} → statement M
 copy-line-spec =
