@@ -1,12 +1,13 @@
 -- All that a row takes from private memory.
 -- Assumes nothing.
 use Prim.Native.Nat.{ℕ}
-use mathlib.Core.Bool.{Bool, false}
+use mathlib.Core.Bool.{Bool, false, not, _&&_}
 use mathlib.Core.List.{List, []}
 use lib.ListN.{getD}
+use Rattle.basics.specs.Bits.{isSet}
 use Rattle.basics.specs.Parts.{table}
 use Rattle.cell.specs.declared.kind.Cell.{Cell}
-use Rattle.cell.specs.Cells.{cellOf}
+use Rattle.cell.specs.Cells.{isQuadrichrome, cellOf}
 use Rattle.page.specs.Codes.{codeAt}
 use Rattle.page.specs.Halves.{lowerHalf, rightHalf}
 use Rattle.page.specs.Sources.{cellSource, characterOf, keptSlice, romSlice}
@@ -16,6 +17,10 @@ use Rattle.page.specs.declared.source.Source.the-variants.{Rom, Block}
 -- the cell of three code bytes
 abbrev pub decoded : List ℕ → Cell
 decoded code = cellOf (getD code 0 0) (getD code 1 0) (getD code 2 0)
+
+-- a bichrome cell whose A3 is set
+unfoldable pub flashes : List ℕ → Bool
+flashes code = not (isQuadrichrome (getD code 1 0)) && isSet 3 (getD code 2 0)
 
 -- a cell's slices: the number of a ROM set, or the ten that private memory has
 pub data Slices : Type 0 where

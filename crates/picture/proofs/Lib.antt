@@ -1,3 +1,4 @@
 pub mod Tens
 pub mod Drawn
 pub mod Redrawing
+pub mod Phases

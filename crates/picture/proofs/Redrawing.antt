@@ -39,10 +39,10 @@ part-long picture r h l = length-take-le 1600 (drop (1600 * r) picture) (rw leng
 
 module _ (marks : List Bool) (picture m rom : List ℕ) (settings : Settings) where
   row-marked : (r : ℕ) → isMarked marks r ≡ true → rowOf m rom settings r ≡ rowAfter marks picture m rom settings r
-  row-marked r e = rw e
+  row-marked r e = sym (ap (λ (b : Bool). pick b (rowOf m rom settings r) (partOf 1600 picture r)) e)
 
   row-kept : (r : ℕ) → isMarked marks r ≡ false → partOf 1600 picture r ≡ rowAfter marks picture m rom settings r
-  row-kept r e = rw e
+  row-kept r e = sym (ap (λ (b : Bool). pick b (rowOf m rom settings r) (partOf 1600 picture r)) e)
 
   each-after : (n : ℕ) → length picture ≡ 40000 → n ≤ 25 → Each 1600 (rowAfter marks picture m rom settings) n
   each-after n h w r l =
