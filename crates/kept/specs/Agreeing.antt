@@ -1,0 +1,11 @@
+-- Two memories that agree on the places of a list.
+-- Assumes nothing.
+use Prim.Native.Nat.{ℕ}
+use mathlib.Core.Path.{_≡_}
+use mathlib.Core.Bool.{Bool, true}
+use mathlib.Core.List.{List}
+use Rattle.page.specs.Codes.{byteAt}
+
+-- every place that passes holds the same byte in both
+abbrev pub Agree : (ℕ → Bool) → List ℕ → List ℕ → Type 0
+Agree f m n = (p : ℕ) → f p ≡ true → byteAt m p ≡ byteAt n p

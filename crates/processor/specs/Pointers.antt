@@ -1,0 +1,32 @@
+-- The pointer that a command uses, and its increment.
+-- Assumes nothing.
+use Prim.Native.Nat.{ℕ, _+_, _-_}
+use mathlib.Core.Bool.{Bool, true}
+use lib.Dec.{eqb}
+use Rattle.basics.specs.Choice.{pick}
+use Rattle.basics.specs.Bits.{bits}
+use Rattle.address.specs.Pointers.{mainPointer, auxiliaryPointer}
+use Rattle.address.specs.declared.triple.Triple.{Triple}
+use Rattle.processor.specs.declared.state.Processor.{Processor}
+use Rattle.processor.specs.States.{registerOf, withRegister, withLx}
+
+-- the main pointer, or the auxiliary one
+unfoldable pub pointerOf : Bool → Processor → Triple
+pointerOf auxiliary p =
+    pick auxiliary (auxiliaryPointer (registerOf p 4) (registerOf p 5) (registerOf p 6)) (mainPointer (registerOf p 6) (registerOf p 7))
+
+-- X, bits 5..0 of a register: one more; from 39 X goes to 0. Y and the block stay
+unfoldable pub nextX : ℕ → ℕ
+nextX register = pick (eqb (bits 0 6 register) 39) (register - 39) (register + 1)
+
+-- Increment adds 1 to X of the pointer used; from 39 its LX bit is set
+unfoldable pub incremented : Bool → Processor → Processor
+incremented auxiliary p =
+    pick auxiliary
+    (pick (eqb (bits 0 6 (registerOf p 5)) 39) (withLx (withRegister p 5 (nextX (registerOf p 5))) (p .lxm) true)
+    (withRegister p 5 (nextX (registerOf p 5))))
+    (pick (eqb (bits 0 6 (registerOf p 7)) 39) (withLx (withRegister p 7 (nextX (registerOf p 7))) true (p .lxa))
+    (withRegister p 7 (nextX (registerOf p 7))))
+
+unfoldable pub incrementedIf : Bool → Bool → Processor → Processor
+incrementedIf asked auxiliary p = pick asked (incremented auxiliary p) p

@@ -1,0 +1,95 @@
+-- The processor's state and its registers.
+-- Assumes nothing.
+use Prim.Native.Nat.{ℕ, _+_, _*_}
+use mathlib.Core.Bool.{Bool, true, false, not, _&&_, _||_}
+use mathlib.Core.List.{List, [], _∷_}
+use lib.Dec.{eqb}
+use lib.ListN.{getD, set}
+use Rattle.basics.specs.Choice.{pick, oneIf}
+use Rattle.basics.specs.Parts.{table}
+use Rattle.processor.specs.declared.state.Processor.{Processor}
+
+-- the registers by name; R0 written is the command
+abbrev pub registerOf : Processor → ℕ → ℕ
+registerOf p n = getD (p .registers) n 0
+
+abbrev pub tgsOf : Processor → ℕ
+tgsOf p = getD (p .indirect) 1 0
+
+abbrev pub patOf : Processor → ℕ
+patOf p = getD (p .indirect) 3 0
+
+abbrev pub dorOf : Processor → ℕ
+dorOf p = getD (p .indirect) 4 0
+
+abbrev pub rorOf : Processor → ℕ
+rorOf p = getD (p .indirect) 7 0
+
+-- every row marked; none
+abbrev pub allMarked : List Bool
+allMarked = table (λ r. true) 25
+
+abbrev pub noneMarked : List Bool
+noneMarked = table (λ r. false) 25
+
+-- Power-up: all registers and both LX bits 0, command 91 hex, phase 0, every row marked
+unfoldable pub powerUp : Processor
+powerUp =
+    record {
+      registers = 0x91 ∷ 0 ∷ 0 ∷ 0 ∷ 0 ∷ 0 ∷ 0 ∷ 0 ∷ [];
+      indirect = 0 ∷ 0 ∷ 0 ∷ 0 ∷ 0 ∷ 0 ∷ 0 ∷ 0 ∷ [];
+      lxm = false;
+      lxa = false;
+      phase = 0;
+      marks = allMarked;
+    }
+
+-- the state with one part other
+abbrev pub withRegisters : Processor → List ℕ → Processor
+withRegisters p l = record { registers = l; indirect = p .indirect; lxm = p .lxm; lxa = p .lxa; phase = p .phase; marks = p .marks }
+
+abbrev pub withLx : Processor → Bool → Bool → Processor
+withLx p m a = record { registers = p .registers; indirect = p .indirect; lxm = m; lxa = a; phase = p .phase; marks = p .marks }
+
+abbrev pub withMarks : Processor → List Bool → Processor
+withMarks p l = record { registers = p .registers; indirect = p .indirect; lxm = p .lxm; lxa = p .lxa; phase = p .phase; marks = l }
+
+abbrev pub withIndirect : Processor → List ℕ → List Bool → Processor
+withIndirect p i l = record { registers = p .registers; indirect = i; lxm = p .lxm; lxa = p .lxa; phase = p .phase; marks = l }
+
+abbrev pub withPhase : Processor → ℕ → List Bool → Processor
+withPhase p n l = record { registers = p .registers; indirect = p .indirect; lxm = p .lxm; lxa = p .lxa; phase = n; marks = l }
+
+-- register n written
+abbrev pub withRegister : Processor → ℕ → ℕ → Processor
+withRegister p n v = withRegisters p (set (p .registers) n v)
+
+-- R0 read is the status: bit 7 busy, 6 set if either LX is set, 5 LXm, 4 LXa, others 0. (Busy reads 0.)
+unfoldable pub statusOf : Processor → ℕ
+statusOf p = 64 * oneIf (p .lxm || p .lxa) + 32 * oneIf (p .lxm) + 16 * oneIf (p .lxa)
+
+-- register n read
+unfoldable pub registerRead : Processor → ℕ → ℕ
+registerRead p n = pick (eqb n 0) (statusOf p) (registerOf p n)
+
+-- An accepted KRF or OCT first clears both LX bits
+abbrev pub cleared : Processor → Processor
+cleared p = withLx p false false
+
+-- IND read: R1 from the register r
+abbrev pub indirectRead : Processor → ℕ → Processor
+indirectRead p r = withRegister p 1 (getD (p .indirect) r 0)
+
+-- IND: R1 to the register r. A changed value in ROR, DOR, PAT or TGS marks all 25. (2 is MAT.)
+unfoldable pub indirectWritten : Processor → ℕ → Processor
+indirectWritten p r =
+    withIndirect p (set (p .indirect) r (registerOf p 1))
+    (pick (not (eqb (getD (p .indirect) r 0) (registerOf p 1)) && not (eqb r 2)) allMarked (p .marks))
+
+-- the state with the private memory
+pub record Kept : Type 0 where
+  pub processor : Processor
+  pub memory : List ℕ
+
+abbrev pub kept : Processor → List ℕ → Kept
+kept p m = record { processor = p; memory = m }

@@ -1,0 +1,115 @@
+// Bytes of private memory through the pointers: OCT and KRF at a legal pointer.
+ghost use mathlib.Core.Path.{_≡_};
+ghost use mathlib.Core.Bool.{true, false};
+ghost use lib.ListN.{length};
+ghost use Rattle.address.specs.Triples.{legal};
+ghost use Rattle.processor.specs.States.{kept};
+ghost use Rattle.processor.specs.Pointers.{pointerOf};
+ghost use Rattle.processor.specs.Bytes.{loaded, stored, blockAt, octet, code};
+use crate::pointer::increment_if;
+use crate::pointer::pointer;
+use crate::state::Processor;
+use address::place::block;
+use address::place::place;
+use address::triple::Triple;
+use reading::shown::Shown;
+use reading::store::store_marks;
+
+// The triple in the block k after its own.
+pub fn block_at(at: Triple, k: u8) -> Triple
+    ensures { λ r. ⌜ r ≡ blockAt at k ⌝ }
+{
+    Triple {
+        x: at.x,
+        y: at.y,
+        z: block(at.z, k),
+    }
+}
+
+pub fn load(memory: &[u8], at: Triple) -> u8
+    requires { ⌜ (length (now memory) ≡ 16384) × (legal at ≡ true) ⌝ }
+    ensures { λ r. ⌜ r ≡ loaded at (now (memory .entry)) ⌝ }
+{
+    let p = place(at);
+    memory[p]
+}
+
+// A store marks by the lists just before it.
+pub fn store(mut p: Processor, memory: &mut [u8], at: Triple, value: u8) -> Processor
+    requires { ⌜ (length (now memory) ≡ 16384) × (legal at ≡ true) ⌝ }
+    ensures { λ r. ⌜ kept r (now (memory .exit)) ≡ stored at value (kept p (now (memory .entry))) ⌝ }
+{
+    let shown = Shown {
+        tgs: p.indirect[1],
+        pat: p.indirect[3],
+        dor: p.indirect[4],
+        ror: p.indirect[7],
+    };
+    let before = p.marks;
+    let after = store_marks(before, shown, memory, at, value);
+    let here = place(at);
+    memory[here] = value;
+    p.marks = after;
+    p
+}
+
+// OCT: R1 with one byte.
+pub fn one_byte(
+    p: Processor,
+    memory: &mut [u8],
+    reads: bool,
+    auxiliary: bool,
+    increments: bool,
+) -> Processor
+    requires { ⌜ (length (now memory) ≡ 16384) × (legal (pointerOf auxiliary p) ≡ true) ⌝ }
+    ensures { λ r. ⌜ kept r (now (memory .exit)) ≡ octet reads auxiliary increments (kept p (now (memory .entry))) ⌝ }
+{
+    let at = pointer(p, auxiliary);
+    let free = p.cleared();
+    if reads {
+        let value = load(memory, at);
+        return increment_if(free.with_register(1, value), increments, auxiliary);
+    }
+    let r1 = p.registers[1];
+    let next = store(free, memory, at, r1);
+    increment_if(next, increments, auxiliary)
+}
+
+// R1, R2, R3 from the C, B, A bytes.
+fn code_read(p: Processor, memory: &[u8], at: Triple) -> Processor
+    requires { ⌜ (length (now memory) ≡ 16384) × (legal at ≡ true) ⌝ }
+    ensures { λ r. ⌜ r ≡ Rattle.processor.specs.Bytes.codeRead at p (now (memory .entry)) ⌝ }
+{
+    let c = load(memory, block_at(at, 0));
+    let b = load(memory, block_at(at, 1));
+    let a = load(memory, block_at(at, 2));
+    p.with_register(1, c)
+        .with_register(2, b)
+        .with_register(3, a)
+}
+
+// R1, R2, R3 to the C, B, A bytes, in that order.
+fn code_stored(p: Processor, memory: &mut [u8], at: Triple) -> Processor
+    requires { ⌜ (length (now memory) ≡ 16384) × (legal at ≡ true) ⌝ }
+    ensures { λ r. ⌜ kept r (now (memory .exit)) ≡ Rattle.processor.specs.Bytes.codeStored at (kept p (now (memory .entry))) ⌝ }
+{
+    let c = p.registers[1];
+    let b = p.registers[2];
+    let a = p.registers[3];
+    let first = store(p, memory, block_at(at, 0), c);
+    let second = store(first, memory, block_at(at, 1), b);
+    store(second, memory, block_at(at, 2), a)
+}
+
+// KRF: three code bytes at the main pointer.
+pub fn three_bytes(p: Processor, memory: &mut [u8], reads: bool, increments: bool) -> Processor
+    requires { ⌜ (length (now memory) ≡ 16384) × (legal (pointerOf false p) ≡ true) ⌝ }
+    ensures { λ r. ⌜ kept r (now (memory .exit)) ≡ code reads increments (kept p (now (memory .entry))) ⌝ }
+{
+    let at = pointer(p, false);
+    let free = p.cleared();
+    if reads {
+        return increment_if(code_read(free, memory, at), increments, false);
+    }
+    increment_if(code_stored(free, memory, at), increments, false)
+}

@@ -1,0 +1,105 @@
+// The processor's state, and its registers.
+ghost use mathlib.Core.Path.{_≡_};
+ghost use Prim.Native.Nat.{_<_};
+ghost use Rattle.processor.specs.States.{powerUp, statusOf, withRegister, registerRead, cleared, indirectRead, indirectWritten};
+
+pub struct Processor {
+    // R0 is the command.
+    pub registers: [u8; 8],
+    // By r: 1 TGS, 2 MAT, 3 PAT, 4 DOR, 7 ROR.
+    pub indirect: [u8; 8],
+    pub lxm: bool,
+    pub lxa: bool,
+    pub phase: u8,
+    pub marks: [bool; 25],
+}
+
+impl Processor {
+    pub fn power_up() -> Self
+        ensures { λ r. ⌜ r ≡ powerUp ⌝ }
+    {
+        Processor {
+            registers: [0x91, 0, 0, 0, 0, 0, 0, 0],
+            indirect: [0; 8],
+            lxm: false,
+            lxa: false,
+            phase: 0,
+            marks: [true; 25],
+        }
+    }
+
+    pub fn with_register(mut self, n: u8, value: u8) -> Self
+        requires { ⌜ n < 8 ⌝ }
+        ensures { λ r. ⌜ r ≡ withRegister self n value ⌝ }
+    {
+        let i = n as usize;
+        self.registers[i] = value;
+        self
+    }
+
+    // R0 read.
+    pub fn status(self) -> u8
+        ensures { λ r. ⌜ r ≡ statusOf self ⌝ }
+    {
+        if self.lxm {
+            if self.lxa {
+                return 0x70;
+            }
+            return 0x60;
+        }
+        if self.lxa {
+            return 0x50;
+        }
+        0
+    }
+
+    pub fn register(self, n: u8) -> u8
+        requires { ⌜ n < 8 ⌝ }
+        ensures { λ r. ⌜ r ≡ registerRead self n ⌝ }
+    {
+        if n == 0 {
+            return self.status();
+        }
+        let i = n as usize;
+        self.registers[i]
+    }
+
+    // Both LX bits.
+    pub fn cleared(mut self) -> Self
+        ensures { λ r. ⌜ r ≡ cleared self ⌝ }
+    {
+        self.lxm = false;
+        self.lxa = false;
+        self
+    }
+
+    // R1 from an indirect register.
+    pub fn indirect_read(mut self, r: u8) -> Self
+        requires { ⌜ r < 8 ⌝ }
+        ensures { λ p. ⌜ p ≡ indirectRead self r ⌝ }
+    {
+        let i = r as usize;
+        let value = self.indirect[i];
+        self.registers[1] = value;
+        self
+    }
+
+    // R1 to an indirect register: a changed value marks every row, except in MAT.
+    pub fn indirect_written(mut self, r: u8) -> Self
+        requires { ⌜ r < 8 ⌝ }
+        ensures { λ p. ⌜ p ≡ indirectWritten self r ⌝ }
+    {
+        let i = r as usize;
+        let value = self.registers[1];
+        let old = self.indirect[i];
+        self.indirect[i] = value;
+        if old == value {
+            return self;
+        }
+        if r == 2 {
+            return self;
+        }
+        self.marks = [true; 25];
+        self
+    }
+}

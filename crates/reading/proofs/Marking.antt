@@ -1,0 +1,159 @@
+-- The loop that marks, row after row from the top: what holds after r rows, as one record, its turn and its end.
+-- Assumes nothing.
+use Prim.Native.Nat.{ℕ, zero, suc, _+_, _-_, _%_, _≤_, _<_}
+use mathlib.Core.Path.{_≡_, refl, sym, ap, ap₂, _∙_}
+use mathlib.Core.Bool.{Bool, true, false, not, _&&_, _||_}
+use mathlib.Core.List.{List}
+use native.Mathlib.Omega.{arith}
+use native.Mathlib.Numerals.{add-one}
+use lib.Dec.{eqb}
+use borrow.Author.Tests.{eq-eqb, ne-eqb}
+use lib.ListN.{length, getD, take, set, length-set}
+use Rattle.basics.specs.Below.{anyBelow}
+use Rattle.basics.specs.Parts.{table, joined}
+use Rattle.basics.proofs.Below.{any-same}
+use Rattle.basics.proofs.Filled.{table-set, table-end}
+use Rattle.address.specs.declared.triple.Triple.{Triple}
+use Rattle.address.specs.Triples.{legal}
+use Rattle.address.specs.Places.{placeOf, blockOf}
+use Rattle.address.specs.Rows.{rowY}
+use Rattle.address.proofs.Laws.{legal-page}
+use Rattle.page.specs.Codes.{yorOf, firstBlock, codeOf}
+use Rattle.page.specs.Halves.{isTall}
+use Rattle.page.specs.Inputs.{flashes}
+use Rattle.page.proofs.Codes.{yor-bits}
+use Rattle.picture.specs.Redraws.{isMarked}
+use Rattle.reading.specs.declared.key.Keys.{Keys}
+use Rattle.reading.specs.Lists.{rowHolds, cellHolds, slicesHold, hasTall, aboveHolds, onList}
+use Rattle.reading.specs.Marks.{canDraw, markedToo, storeMarks, flashIn, phaseMarks}
+use Rattle.reading.specs.Runs.{keysOf, keyed, codeBlock}
+use Rattle.reading.proofs.Tests.{and-false, marked-first}
+use Rattle.reading.proofs.Characters.{keyed-cell}
+use Rattle.reading.proofs.Places.{own-bytes}
+
+-- the first r marks are those of rows that were marked or pass
+pub record MarkedTo (f : ℕ → Bool) (marks after : List Bool) (r : ℕ) : Type 0 where
+  pub within : r ≤ 25
+  pub long : length after ≡ 25
+  pub done : take r after ≡ table (λ i. isMarked marks i || f i) r
+
+module _ (f : ℕ → Bool) (marks : List Bool) where
+  pub marked-start : (after : List Bool) → length after ≡ 25 → MarkedTo f marks after 0
+  unfolding joined
+  marked-start after h = record { within = omega arith; long = h; done = refl }
+
+  module _ (after : List Bool) (r : ℕ) (d : MarkedTo f marks after r) where
+    pub marked-turn : r < 25 → (new : Bool) → new ≡ (isMarked marks r || f r) → MarkedTo f marks (set after r new) (r + 1)
+    marked-turn l new e =
+        let long = d .long in
+        record { within = omega arith; long = simp length-set long; done = table-set _ after r new (d .done) e (omega arith) }
+
+    pub marked-end : 25 ≤ r → after ≡ markedToo f marks
+    unfolding markedToo
+    marked-end h = table-end _ after 25 r (d .done) (d .within) h (d .long)
+
+-- a row, by the block and the Y that the code has
+module _ (ror : ℕ) (m : List ℕ) (r z y : ℕ) (ez : z ≡ firstBlock ror) (ey : y ≡ rowY (ror % 32) r) where
+  same-row : (g : List ℕ → Bool) → anyBelow (λ x. g (codeOf m z y x)) 40 ≡ anyBelow (λ x. g (codeOf m (firstBlock ror) (rowY (yorOf ror) r) x)) 40
+  same-row g = any-same _ _ 40 (λ x l. rw (ez, ey, yor-bits ror))
+
+  flash-row : anyBelow (λ x. flashes (codeOf m z y x)) 40 ≡ flashIn ror m r
+  unfolding flashIn
+  flash-row = same-row flashes
+
+  -- the turn of a phase change
+  pub flash-turn :
+      (marks after : List Bool) (new : Bool) → MarkedTo (flashIn ror m) marks after r → r < 25
+      → new ≡ (isMarked marks r || anyBelow (λ x. flashes (codeOf m z y x)) 40) → MarkedTo (flashIn ror m) marks (set after r new) (r + 1)
+  flash-turn marks after new d l e = marked-turn _ marks after r d l new (e ∙ ap (λ (t : Bool). isMarked marks r || t) flash-row)
+
+  tall-row : anyBelow (λ x. isTall (codeOf m z y x)) 40 ≡ hasTall ror m r
+  unfolding hasTall
+  tall-row = same-row isTall
+
+  module _ (dor : ℕ) (at : Triple) (lawful : legal at ≡ true) where
+    abbrev place : ℕ
+    place = placeOf (at .x) (at .y) (at .z)
+
+    slices-row :
+        (keys : Keys) → keys ≡ keysOf dor at → dor < 256 → ((k : ℕ) → getD m k 0 < 256)
+        → anyBelow (λ x. keyed keys (codeOf m z y x)) 40 ≡ slicesHold ror dor m place r
+    unfolding slicesHold codeOf
+    slices-row keys ek h bytes =
+        any-same _ _ 40
+        (λ x l. ap (λ (k : Keys). keyed k (codeOf m z y x)) ek ∙ keyed-cell dor at (legal-page at lawful) (codeOf m z y x) (bytes (placeOf x y (blockOf z 1))) h)
+        ∙ same-row (cellHolds dor place)
+
+    own-row : (code : Bool) → code ≡ codeBlock z (at .z) → (code && eqb y (at .y)) ≡ rowHolds ror place r
+    own-row code ec =
+        rw (ec, ez, ey, yor-bits ror) (own-bytes (at .x) (at .y) (at .z) (legal-page at lawful) ror r)
+
+-- what the row above hands on: its own bytes, or those of the rows above that it reads, hold the byte
+abbrev handed : ℕ → List ℕ → ℕ → ℕ → Bool
+handed ror m p zero = false
+handed ror m p (suc r) = rowHolds ror p r || aboveHolds ror m p r
+
+above-handed : (ror : ℕ) (m : List ℕ) (p r : ℕ) → (hasTall ror m r && handed ror m p r) ≡ aboveHolds ror m p r
+unfolding aboveHolds
+above-handed ror m p zero = and-false (hasTall ror m 0)
+above-handed ror m p (suc r) = refl
+
+pub record AskedTo (ror dor : ℕ) (m : List ℕ) (p : ℕ) (marks after : List Bool) (reached : Bool) (r : ℕ) : Type 0 where
+  pub marked : MarkedTo (onList ror dor m p) marks after r
+  pub down : reached ≡ handed ror m p r
+
+module _ (ror dor : ℕ) (m : List ℕ) (at : Triple) (marks : List Bool) where
+  abbrev stored : ℕ
+  stored = placeOf (at .x) (at .y) (at .z)
+
+  pub asked-start : (after : List Bool) → length after ≡ 25 → AskedTo ror dor m stored marks after false 0
+  asked-start after h = record { marked = marked-start _ marks after h; down = refl }
+
+  module _
+      (lawful : legal at ≡ true) (small : dor < 256) (bytes : (k : ℕ) → getD m k 0 < 256) (z : ℕ) (keys : Keys) (code : Bool)
+      (ez : z ≡ firstBlock ror) (ek : keys ≡ keysOf dor at) (ec : code ≡ codeBlock z (at .z))
+    where
+      pub asked-turn :
+          (after : List Bool) (reached : Bool) (r y : ℕ) (above new : Bool)
+          → AskedTo ror dor m stored marks after reached r → r < 25 → y ≡ rowY (ror % 32) r
+          → above ≡ (anyBelow (λ x. isTall (codeOf m z y x)) 40 && reached)
+          → new ≡ ((isMarked marks r || ((code && eqb y (at .y)) || above)) || anyBelow (λ x. keyed keys (codeOf m z y x)) 40)
+          → AskedTo ror dor m stored marks (set after r new) ((code && eqb y (at .y)) || above) (r + 1)
+      unfolding onList
+      asked-turn after reached r y above new d l ey ea en =
+          let own = own-row ror m r z y ez ey dor at lawful code ec in
+          let up : above ≡ aboveHolds ror m stored r = ea ∙ ap₂ _&&_ (tall-row ror m r z y ez ey) (d .down) ∙ above-handed ror m stored r in
+          let slices = slices-row ror m r z y ez ey dor at lawful keys ek small bytes in
+          record {
+            marked =
+                marked-turn _ marks after r (d .marked) l new
+                (en
+                ∙ ap₂ _||_ (ap (λ (t : Bool). isMarked marks r || t) (ap₂ _||_ own up)) slices
+                ∙ marked-first (isMarked marks r) (rowHolds ror stored r) (slicesHold ror dor m stored r) (aboveHolds ror m stored r));
+            down = rw add-one (ap₂ _||_ own up);
+          }
+
+-- the two ends of a store and of a phase change
+module _ (tgs pat ror : ℕ) (drawn : Bool) (learnt : drawn ≡ canDraw tgs pat ror) where
+  pub phase-refused : (m : List ℕ) (marks : List Bool) → drawn ≡ false → marks ≡ phaseMarks tgs pat ror m marks
+  unfolding phaseMarks
+  phase-refused m marks e = rw (sym learnt ∙ e)
+
+  pub phase-asked : (m : List ℕ) (marks after : List Bool) → drawn ≡ true → after ≡ markedToo (flashIn ror m) marks → after ≡ phaseMarks tgs pat ror m marks
+  unfolding phaseMarks
+  phase-asked m marks after e q = rw (sym learnt ∙ e) q
+
+  module _ (dor : ℕ) (m : List ℕ) (p v : ℕ) (marks : List Bool) where
+    pub store-refused : drawn ≡ false → marks ≡ storeMarks tgs pat dor ror m p v marks
+    unfolding storeMarks
+    store-refused e = rw (sym learnt ∙ e)
+
+    pub store-same : (q : ℕ) → q ≡ p → drawn ≡ true → getD m q 0 ≡ v → marks ≡ storeMarks tgs pat dor ror m p v marks
+    unfolding storeMarks
+    store-same q at e same = rw (sym learnt ∙ e, ← at, eq-eqb (getD m q 0) v same)
+
+    pub store-asked :
+        (q : ℕ) → q ≡ p → drawn ≡ true → (getD m q 0 ≡ v → ⊥) → (after : List Bool) → after ≡ markedToo (onList ror dor m p) marks
+        → after ≡ storeMarks tgs pat dor ror m p v marks
+    unfolding storeMarks
+    store-asked q at e other after made = made ∙ rw (sym learnt ∙ e, ← at, ne-eqb (getD m q 0) v other)

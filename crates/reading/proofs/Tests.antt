@@ -1,0 +1,80 @@
+-- Laws of tests: two that hold together are the same, and the ways to group three.
+-- Assumes nothing.
+use Prim.Native.Nat.{ℕ, zero, suc, _+_, _<_}
+use mathlib.Core.Path.{_≡_, refl, sym, ap, ap₂, _∙_}
+use mathlib.Core.Bool.{Bool, true, false, not, _&&_, _||_, false≢true}
+use native.Mathlib.Omega.{arith}
+use Rattle.basics.specs.Below.{anyBelow}
+use Rattle.basics.proofs.Below.{any-none, any-step, any-same}
+
+-- two tests that hold together
+pub together : (a b : Bool) → (a ≡ true → b ≡ true) → (b ≡ true → a ≡ true) → a ≡ b
+together true b f g = sym (f refl)
+together false true f g = g refl
+together false false f g = refl
+
+pub or-group : (a b c : Bool) → ((a || b) || c) ≡ (a || (b || c))
+or-group true b c = refl
+or-group false b c = refl
+
+pub and-false : (a : Bool) → (a && false) ≡ false
+and-false true = refl
+and-false false = refl
+
+pub and-true : (a : Bool) → (a && true) ≡ a
+and-true true = refl
+and-true false = refl
+
+pub not-false : (a : Bool) → not a ≡ false → a ≡ true
+not-false true e = refl
+not-false false e = sym e
+
+pub or-none-left : (a b : Bool) → (a || b) ≡ false → a ≡ false
+or-none-left true b e = e
+or-none-left false b e = refl
+
+pub or-none-right : (a b : Bool) → (a || b) ≡ false → b ≡ false
+or-none-right true b e = absurd (false≢true (sym e))
+or-none-right false b e = e
+
+pub or-false : (a : Bool) → (a || false) ≡ a
+or-false true = refl
+or-false false = refl
+
+-- a row's mark: what the code asks first, and what the list names first
+pub marked-first : (mark own slices above : Bool) → ((mark || (own || above)) || slices) ≡ (mark || (own || (slices || above)))
+marked-first true own slices above = refl
+marked-first false true slices above = refl
+marked-first false false true true = refl
+marked-first false false true false = refl
+marked-first false false false true = refl
+marked-first false false false false = refl
+
+module _ (f : ℕ → Bool) where
+  -- a turn of a loop that gathers
+  pub gathered : (i : ℕ) (found test : Bool) → found ≡ anyBelow f i → test ≡ f i → (found || test) ≡ anyBelow f (i + 1)
+  gathered i found test p q = ap₂ _||_ p q ∙ sym (any-step f i)
+
+  -- none passes
+  pub any-never : (n : ℕ) → ((i : ℕ) → i < n → f i ≡ false) → anyBelow f n ≡ false
+  unfolding anyBelow
+  any-never n h = any-same f (λ i. false) n h ∙ never n
+    where
+      never : (k : ℕ) → anyBelow (λ i. false) k ≡ false
+      never zero = refl
+      never (suc k) = or-false (anyBelow (λ i. false) k) ∙ never k
+
+  -- the numbers below a + b are those below a, and the b from a on
+  pub any-split : (a b : ℕ) → anyBelow f (a + b) ≡ (anyBelow f a || anyBelow (λ i. f (a + i)) b)
+  unfolding anyBelow
+  any-split a zero = let e : a + 0 ≡ a = omega arith in rw e (sym (or-false (anyBelow f a)))
+  any-split a (suc b) =
+      let e : a + suc b ≡ suc (a + b) = omega arith in
+      ap (anyBelow f) e
+      ∙ ap (λ (t : Bool). t || f (a + b)) (any-split a b)
+      ∙ or-group (anyBelow f a) (anyBelow (λ i. f (a + i)) b) (f (a + b))
+
+  -- the two runs of a row
+  pub row-runs : (left right : Bool) → left ≡ anyBelow (λ i. f (0 + i)) 32 → right ≡ anyBelow (λ i. f (32 + i)) 8 → (left || right) ≡ anyBelow f 40
+  row-runs left right p q =
+      ap₂ _||_ (p ∙ any-same (λ i. f (0 + i)) f 32 (λ i l. ap f (omega arith))) q ∙ sym (any-split 32 8)

@@ -1,0 +1,16 @@
+use Rattle.reading.proofs.Tests.{row-runs}
+use borrow.Author.Needs.{needs}
+use Rattle.reading.proofs.row.has_tall.Statement.{statement}
+use Rattle.reading.proofs.row.has_tall.Tie as tie
+
+some-tall-requires : tie.Need-some-tall-requires
+some-tall-requires c κs = search needs
+
+some-tall-requires-2 : tie.Need-some-tall-requires-2
+some-tall-requires-2 c κs = search needs
+
+returns : tie.Need-returns
+returns c = row-runs _ _ _ (c .before .some-tall .ensures) (c .some-tall2 .ensures)
+
+pub has-tall-spec : {M : Type 1} → statement M
+has-tall-spec = tie.close (tie.spec some-tall-requires some-tall-requires-2 returns)

@@ -1,0 +1,62 @@
+// What a store marks. The place's X, Y and Z say at once which row could hold the byte as one of its own, and which one character in
+// which block could have it as a slice; a row that is marked already is not asked.
+ghost use mathlib.Core.Path.{_≡_};
+ghost use mathlib.Core.Bool.{true};
+ghost use lib.ListN.{length};
+ghost use Rattle.address.specs.Triples.{legal};
+ghost use Rattle.address.specs.Places.{placeOf};
+ghost use Rattle.reading.specs.Lists.{onList};
+ghost use Rattle.reading.specs.Marks.{markedToo, storeMarks};
+use crate::key::is_code_block;
+use crate::key::keys_of;
+use crate::refuse::can_draw;
+use crate::row::is_marked_or_keyed;
+use crate::row::is_reached;
+use crate::shown::Shown;
+use address::place::place;
+use address::row::row_y;
+use address::triple::Triple;
+use page::code::first_block;
+
+// The rows are asked from the top, so that each hands on to the one below whether its own bytes, or those of the rows above that it
+// reads, hold the byte.
+fn list_marks(marks: [bool; 25], ror: u8, dor: u8, memory: &[u8], at: Triple) -> [bool; 25]
+    requires { ⌜ (length (now memory) ≡ 16384) × (legal at ≡ true) ⌝ }
+    ensures { λ r. ⌜ r ≡ markedToo (onList ror dor (now (memory .entry)) (placeOf (at .x) (at .y) (at .z))) marks ⌝ }
+{
+    let z = first_block(ror);
+    let keys = keys_of(dor, at);
+    let code = is_code_block(z, at.z);
+    let mut after = marks;
+    let mut reached = false;
+    for r in 0..25 {
+        let y = row_y(ror % 32, r as u8);
+        let own = code & (y == at.y);
+        let above = is_reached(memory, z, y, reached);
+        reached = own | above;
+        let known = marks[r] | reached;
+        after[r] = is_marked_or_keyed(memory, z, y, keys, known);
+    }
+    after
+}
+
+// The marks after a store of `value` at a legal triple; the store itself comes after.
+pub fn store_marks(
+    marks: [bool; 25],
+    shown: Shown,
+    memory: &[u8],
+    at: Triple,
+    value: u8,
+) -> [bool; 25]
+    requires { ⌜ (length (now memory) ≡ 16384) × (legal at ≡ true) ⌝ }
+    ensures { λ r. ⌜ r ≡ storeMarks (shown .tgs) (shown .pat) (shown .dor) (shown .ror) (now (memory .entry)) (placeOf (at .x) (at .y) (at .z)) value marks ⌝ }
+{
+    if can_draw(shown.tgs, shown.pat, shown.ror) {
+        let p = place(at);
+        if memory[p] == value {
+            return marks;
+        }
+        return list_marks(marks, shown.ror, shown.dor, memory, at);
+    }
+    marks
+}
