@@ -1,0 +1,170 @@
+//! What the compared pages showed, counted, so that a tame choice of pages is seen.
+
+use std::fmt;
+
+use second::address::{code_block, slice_place};
+use second::cell::{Cell, Set, Source};
+use second::half::{shows_lower, shows_right};
+use second::page::first_block;
+use second::{COLUMNS, ROWS};
+
+use crate::request::Request;
+
+/// A cell as a redraw shows it: in a marked row.
+struct Shown<'a> {
+    request: &'a Request,
+    cell: Cell,
+    row: usize,
+    lower: bool,
+    right: bool,
+}
+
+type Test = fn(&Shown) -> bool;
+
+const TESTS: [(&str, Test); 25] = [
+    ("G0", |shown| shown.cell.set() == Some(Set::G0)),
+    ("G10", |shown| shown.cell.set() == Some(Set::G10)),
+    ("G11", |shown| shown.cell.set() == Some(Set::G11)),
+    ("G20", |shown| shown.cell.set() == Some(Set::G20)),
+    ("G21", |shown| shown.cell.set() == Some(Set::G21)),
+    ("G'0", |shown| shown.cell.set() == Some(Set::UserG0)),
+    ("G'10", |shown| shown.cell.set() == Some(Set::UserG10)),
+    ("G'11", |shown| shown.cell.set() == Some(Set::UserG11)),
+    ("high resolution", |shown| {
+        shown.cell.is_quadrichrome() && !shown.cell.is_low_resolution()
+    }),
+    ("low resolution, K 0", |shown| {
+        shown.cell.is_low_resolution() && shown.cell.k() == 0
+    }),
+    ("low resolution, K 1", |shown| {
+        shown.cell.is_low_resolution() && shown.cell.k() == 1
+    }),
+    ("fewer than four colours", |shown| {
+        shown.cell.is_quadrichrome() && shown.cell.a.count_ones() < 4
+    }),
+    ("upper half", |shown| {
+        shown.cell.is_double_height() && !shown.lower
+    }),
+    ("lower half", |shown| shown.lower),
+    ("left half", |shown| {
+        shown.cell.is_double_width() && !shown.right
+    }),
+    ("right half", |shown| shown.right),
+    ("lower right quarter", |shown| shown.lower && shown.right),
+    ("lower half below a row that is not marked", |shown| {
+        shown.lower && !shown.request.marks[shown.row - 1]
+    }),
+    ("underlined", |shown| shown.cell.is_underlined()),
+    ("concealed", |shown| {
+        shown.cell.is_concealed() && shown.request.pat / 0x08 % 2 == 1
+    }),
+    ("flashing, shown", |shown| {
+        shown.flashes() && !shown.is_hidden()
+    }),
+    ("flashing, hidden", |shown| {
+        shown.flashes() && shown.is_hidden()
+    }),
+    ("negative", |shown| {
+        !shown.cell.is_quadrichrome() && shown.cell.negative() == 1
+    }),
+    ("slices in a shown block", |shown| {
+        shown.block().is_some_and(|z| shown.is_shown_block(z))
+    }),
+    ("slices at no legal place", |shown| {
+        let place = |z| slice_place(shown.cell.c, 0, z);
+        shown.block().is_some_and(|z| place(z).is_none())
+    }),
+];
+
+impl Shown<'_> {
+    fn flashes(&self) -> bool {
+        self.cell.is_flashing() && self.request.pat / 0x40 % 2 == 1
+    }
+
+    fn is_hidden(&self) -> bool {
+        self.request.phase != self.cell.negative()
+    }
+
+    /// The block of private memory that holds the cell's slices, if one does.
+    fn block(&self) -> Option<usize> {
+        match self.cell.source(self.request.dor) {
+            Source::Rom(_) => None,
+            Source::Block(z) => Some(z),
+        }
+    }
+
+    fn is_shown_block(&self, z: usize) -> bool {
+        let first = first_block(self.request.ror);
+        (0..3).any(|byte| code_block(first, byte) == z)
+    }
+}
+
+/// The counts over all pages.
+#[derive(Default)]
+pub struct Seen {
+    cells: [usize; TESTS.len()],
+    origins: [usize; 24],
+    first_blocks: [usize; 8],
+    phases: [usize; 2],
+    rows: usize,
+}
+
+impl Seen {
+    /// Counts the page of a request and the cells of its marked rows.
+    pub fn look(&mut self, request: &Request) {
+        self.origins[usize::from(request.ror % 32 - 8)] += 1;
+        self.first_blocks[usize::from(request.ror / 32)] += 1;
+        self.phases[usize::from(request.phase)] += 1;
+        for row in (0..ROWS).filter(|row| request.marks[*row]) {
+            self.rows += 1;
+            for column in 0..COLUMNS {
+                self.look_at_cell(request, row, column);
+            }
+        }
+    }
+
+    fn look_at_cell(&mut self, request: &Request, row: usize, column: usize) {
+        let processor = request.processor();
+        let page = processor.page(&request.memory);
+        let shown = Shown {
+            request,
+            cell: page.cell(row, column),
+            row,
+            lower: shows_lower(&page, row, column),
+            right: shows_right(&page, row, column),
+        };
+        for (count, (_, test)) in self.cells.iter_mut().zip(TESTS) {
+            *count += usize::from(test(&shown));
+        }
+    }
+
+    /// The number of cells that pass the test of this name.
+    pub fn cells(&self, name: &str) -> usize {
+        let at = TESTS.iter().position(|(test, _)| *test == name);
+        self.cells[at.expect("there is a test of this name")]
+    }
+
+    /// Fails where a kind of cell was seen fewer times than `least`, or an origin, a first block or
+    /// a phase not at all. `but_for` names the kinds that the pages cannot show.
+    pub fn assert_varied(&self, least: usize, but_for: &[&str]) {
+        for (name, _) in TESTS.iter().filter(|(name, _)| !but_for.contains(name)) {
+            let count = self.cells(name);
+            assert!(count >= least, "{name}: only {count} cells");
+        }
+        let places = self.origins.iter().chain(&self.first_blocks);
+        let pages = places.chain(&self.phases);
+        assert!(pages.copied().all(|count| count > 0), "{self}");
+    }
+}
+
+impl fmt::Display for Seen {
+    fn fmt(&self, to: &mut fmt::Formatter) -> fmt::Result {
+        writeln!(to, "rows redrawn: {}", self.rows)?;
+        for (name, _) in TESTS {
+            writeln!(to, "{name}: {} cells", self.cells(name))?;
+        }
+        writeln!(to, "pages of each origin 8 to 31: {:?}", self.origins)?;
+        writeln!(to, "pages of each first block: {:?}", self.first_blocks)?;
+        write!(to, "pages of each phase: {:?}", self.phases)
+    }
+}
