@@ -1,35 +1,31 @@
 -- The keys tell the cells that read a byte as a slice: the place of a legal triple is that of one slice of one character in one block,
 -- and a cell's source is that block where a part of its B is as DOR says.
 -- Assumes nothing.
-use Prim.Native.Nat.{ℕ, _+_, _-_, _*_, _/_, _%_, _≤_, _<_}
+use Prim.Native.Nat.{ℕ, _+_, _*_, _/_, _%_, _≤_, _<_}
 use mathlib.Core.Path.{_≡_, refl, sym, ap, ap₂, _∙_}
-use mathlib.Core.Bool.{Bool, true, false, not, _&&_, _||_, false≢true}
+use mathlib.Core.Bool.{Bool, true, false, _&&_, _||_, false≢true}
 use mathlib.Core.List.{List}
 use mathlib.Core.Logic.{⊎-elim}
 use native.Mathlib.Omega.{arith}
-use lib.Dec.{ltb, eqb}
+use lib.Dec.{eqb}
 use lib.ListN.{getD}
-use borrow.Author.Tests.{eq-eqb, ne-eqb, eqb-true, eqb-false}
+use borrow.Author.Tests.{eq-eqb, ne-eqb, eqb-true}
 use Rattle.basics.specs.Choice.{pick}
 use Rattle.basics.specs.Bits.{bits}
 use Rattle.basics.specs.Below.{anyBelow}
-use Rattle.basics.proofs.Choice.{bool-cases, lt-or-le, and-left, and-right, and-both, or-cases, or-left, or-right}
+use Rattle.basics.proofs.Choice.{bool-cases, lt-or-le, and-left, and-right, and-both}
 use Rattle.basics.proofs.Computed.{agree-test}
 use Rattle.basics.proofs.Below.{any-hit, any-at}
 use Rattle.address.specs.declared.triple.Triple.{Triple}
 use Rattle.address.specs.Triples.{legalY, onPage}
 use Rattle.address.specs.Places.{placeOf}
 use Rattle.address.specs.Slices.{sliceX, sliceY, slicePlaceOf}
-use Rattle.address.specs.declared.slice.SlicePlace.{SlicePlace}
-use Rattle.address.specs.declared.slice.SlicePlace.the-variants.{At, NoByte}
 use Rattle.address.proofs.Laws.{y-facts, facts-y, page-column, page-row, facts-page}
 use Rattle.address.proofs.Places.{place-injective}
 use Rattle.cell.specs.Cells.{setOf, bichromeOf, quadrichromeOf, isQuadrichrome, cellOf}
-use Rattle.cell.specs.declared.kind.Set.the-variants.{UserG0, UserG1}
 use Rattle.cell.specs.declared.kind.Cell.the-variants.{Bichrome, Quadrichrome}
 use Rattle.cell.proofs.Codes.{set-UserG0, set-UserG1, cell-bichrome, cell-quadrichrome}
 use Rattle.page.specs.Sources.{setSource, cellSource, characterOf}
-use Rattle.page.specs.Inputs.{decoded}
 use Rattle.page.specs.declared.source.Source.{Source}
 use Rattle.page.specs.declared.source.Source.the-variants.{Rom, Block}
 use Rattle.reading.specs.Lists.{isAt, sourceHolds, cellHolds}

@@ -1,17 +1,16 @@
 -- Which rows have a byte among their own: the place of a legal triple is that of one cell's byte on the page, or of none.
 -- Assumes nothing.
-use Prim.Native.Nat.{ℕ, _+_, _*_, _/_, _%_, _≤_, _<_}
-use mathlib.Core.Path.{_≡_, refl, sym, ap, _∙_}
-use mathlib.Core.Bool.{Bool, true, false, _&&_, _||_}
+use Prim.Native.Nat.{ℕ, _<_}
+use mathlib.Core.Path.{_≡_, sym, ap, _∙_}
+use mathlib.Core.Bool.{Bool, true, _&&_}
 use mathlib.Core.Logic.{⊎-elim}
 use native.Mathlib.Omega.{arith}
 use lib.Dec.{eqb}
 use borrow.Author.Tests.{eq-eqb, eqb-true}
-use Rattle.basics.specs.Below.{anyBelow}
 use Rattle.basics.proofs.Choice.{and-left, and-right, and-both, or-cases, or-left, or-right}
 use Rattle.basics.proofs.Below.{any-hit, any-at}
 use Rattle.address.specs.declared.triple.Triple.{Triple}
-use Rattle.address.specs.Triples.{legalY, onPage, legal}
+use Rattle.address.specs.Triples.{onPage, legal}
 use Rattle.address.specs.Places.{placeOf, blockOf}
 use Rattle.address.specs.Rows.{rowY}
 use Rattle.address.proofs.Laws.{y-facts, page-column, page-row, facts-page, legal-page, row-legal}

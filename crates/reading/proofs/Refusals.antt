@@ -1,14 +1,12 @@
 -- Laws of the refusals: the bits of TGS and PAT as comparisons.
 -- Assumes nothing.
 use Prim.Native.Nat.{ℕ, _%_, _≤_, _<_}
-use mathlib.Core.Path.{_≡_, refl, sym, ap, ap₂, _∙_}
-use mathlib.Core.Bool.{Bool, true, false, not, _&&_, _||_}
-use native.Mathlib.Omega.{arith}
+use mathlib.Core.Path.{_≡_, sym, ap, _∙_}
+use mathlib.Core.Bool.{Bool, true, false, not, _||_}
 use lib.Dec.{ltb, leb}
 use borrow.Author.Tests.{le-leb, lt-leb}
 use Rattle.basics.specs.Bits.{isSet}
 use Rattle.basics.proofs.Computed.{agree-test}
-use Rattle.page.specs.Codes.{yorOf}
 use Rattle.page.proofs.Codes.{yor-bits}
 use Rattle.reading.specs.Marks.{refused7, refused8, canDraw}
 

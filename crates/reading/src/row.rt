@@ -19,14 +19,20 @@ fn has_tall(memory: &[u8], z: u8, y: u8) -> bool
     requires { ⌜ (length (now memory) ≡ 16384) × (z < 16) × (y < 32) ⌝ }
     ensures { λ r. ⌜ r ≡ anyBelow (λ x. isTall (codeOf (now (memory .entry)) z y x)) 40 ⌝ }
 {
-    some_tall(memory, z, y, 0, 32) | some_tall(memory, z, y, 32, 8)
+    if some_tall(memory, z, y, 0, 32) {
+        return true;
+    }
+    some_tall(memory, z, y, 32, 8)
 }
 
 fn has_flash(memory: &[u8], z: u8, y: u8) -> bool
     requires { ⌜ (length (now memory) ≡ 16384) × (z < 16) × (y < 32) ⌝ }
     ensures { λ r. ⌜ r ≡ anyBelow (λ x. flashes (codeOf (now (memory .entry)) z y x)) 40 ⌝ }
 {
-    some_flash(memory, z, y, 0, 32) | some_flash(memory, z, y, 32, 8)
+    if some_flash(memory, z, y, 0, 32) {
+        return true;
+    }
+    some_flash(memory, z, y, 32, 8)
 }
 
 fn has_character(memory: &[u8], z: u8, y: u8, t: u8) -> bool
@@ -36,8 +42,7 @@ fn has_character(memory: &[u8], z: u8, y: u8, t: u8) -> bool
     some_character(memory, z, y, 0, 32, t) | some_character(memory, z, y, 32, 8, t)
 }
 
-// Most stores are in no block that a cell can have its slices from, and most rows do not have the character at all: that is asked
-// first.
+// Some blocks are no cell's source under this DOR, and most rows do not have the character at all: both are asked before the B bytes.
 fn has_keyed(memory: &[u8], z: u8, y: u8, keys: Keys) -> bool
     requires { ⌜ (length (now memory) ≡ 16384) × (z < 16) × (y < 32) ⌝ }
     ensures { λ r. ⌜ r ≡ anyBelow (λ x. keyed keys (codeOf (now (memory .entry)) z y x)) 40 ⌝ }

@@ -1,3 +1,4 @@
+use mathlib.Core.Logic.{⊎-elim}
 use native.Mathlib.Omega.{arith}
 use Prim.Native.Nat.{_%_}
 use mathlib.Core.Path.{_≡_}
@@ -5,16 +6,10 @@ use Rattle.picture.proofs.line.chosen.Statement.{statement}
 use Rattle.picture.proofs.line.chosen.Tie as tie
 
 returns : tie.Need-returns
-returns c = rw (c .if1 .taken)
+returns c = ⊎-elim (λ w. let e : c .before .before .before .args .by % 4 ≡ 3 = omega arith in rw (w .1, e)) (λ w. let e : c .before .before .before .args .by % 4 ≡ 2 = omega arith in rw (w .1, e)) (c .before .if2 .came)
 
 returns-2 : tie.Need-returns-2
-returns-2 c = rw (c .if2 .taken)
-
-returns-3 : tie.Need-returns-3
-returns-3 c = rw (c .if3 .taken)
-
-returns-4 : tie.Need-returns-4
-returns-4 c = let e : c .before .before .before .args .by % 4 ≡ 3 = omega arith in rw e
+returns-2 c = ⊎-elim (λ w. let e : c .before .before .before .args .by % 4 ≡ 1 = omega arith in rw (w .1, e)) (λ w. let e : c .before .before .before .args .by % 4 ≡ 0 = omega arith in rw (w .1, e)) (c .before .before .if1 .came)
 
 pub chosen-spec : {M : Type 1} → statement M
-chosen-spec = tie.close (tie.spec returns returns-2 returns-3 returns-4)
+chosen-spec = tie.close (tie.spec returns returns-2)
