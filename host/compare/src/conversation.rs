@@ -1,34 +1,42 @@
-//! A run of a program: requests go in on a thread of their own and answers come out.
+//! A run of a program: questions go in on a thread of their own and answers come out.
 
-use std::io::{BufReader, Read, Write};
+use std::io::{self, BufReader, Read, Write};
 use std::process::{Child, ChildStdin, ChildStdout};
 use std::sync::mpsc::{channel, Receiver};
 use std::thread;
 
 use crate::program::Program;
-use crate::request::{Answer, Request};
 
-/// Each request with its answer, in order.
-pub struct Conversation {
-    child: Child,
-    output: BufReader<ChildStdout>,
-    sent: Receiver<Request>,
+/// What a program is asked, and how its answer is read.
+pub trait Question: Send + 'static {
+    type Answer;
+
+    fn bytes(&self) -> Vec<u8>;
+
+    fn answer(&self, from: &mut impl Read) -> io::Result<Self::Answer>;
 }
 
-impl Conversation {
-    /// Starts the program and sends it the requests. A thread writes them, since the program waits
+/// Each question with its answer, in order.
+pub struct Conversation<Q> {
+    child: Child,
+    output: BufReader<ChildStdout>,
+    sent: Receiver<Q>,
+}
+
+impl<Q: Question> Conversation<Q> {
+    /// Starts the program and sends it the questions. A thread writes them, since the program waits
     /// for its answers to be read before it reads on.
-    pub fn start<R>(program: &Program, requests: R) -> Result<Conversation, String>
+    pub fn start<I>(program: &Program, questions: I) -> Result<Conversation<Q>, String>
     where
-        R: Iterator<Item = Request> + Send + 'static,
+        I: Iterator<Item = Q> + Send + 'static,
     {
         let (child, mut input, output) = started(program)?;
         let (sender, sent) = channel();
         thread::spawn(move || {
-            for request in requests {
+            for question in questions {
                 // A program that has gone is seen where its answer is read.
-                let written = input.write_all(&request.bytes());
-                if sender.send(request).is_err() || written.is_err() {
+                let written = input.write_all(&question.bytes());
+                if sender.send(question).is_err() || written.is_err() {
                     break;
                 }
             }
@@ -51,14 +59,14 @@ impl Conversation {
     }
 }
 
-impl Iterator for Conversation {
-    type Item = (Request, Answer);
+impl<Q: Question> Iterator for Conversation<Q> {
+    type Item = (Q, Q::Answer);
 
-    fn next(&mut self) -> Option<(Request, Answer)> {
+    fn next(&mut self) -> Option<(Q, Q::Answer)> {
         match self.sent.recv() {
-            Ok(request) => {
-                let answer = Answer::read(&mut self.output);
-                Some((request, answer.expect("the program gave no whole answer")))
+            Ok(question) => {
+                let answer = question.answer(&mut self.output);
+                Some((question, answer.expect("the program gave no whole answer")))
             }
             Err(_) => {
                 self.end();

@@ -1,10 +1,9 @@
 //! Random pages: the request of a seed.
 
-use std::env;
-
 use second::random::Random;
 use second::{PICTURE, ROM, ROWS};
 
+use crate::amount::at_least;
 use crate::filling::{Filling, FILLINGS};
 use crate::request::Request;
 
@@ -42,6 +41,5 @@ pub fn partly_marked_page(seed: u64) -> Request {
 
 /// How many pages to compare: the number in `BINTURAMIS_PAGES` where it is larger.
 pub fn pages(least: u64) -> u64 {
-    let asked = env::var("BINTURAMIS_PAGES").unwrap_or_default();
-    asked.parse().unwrap_or(0).max(least)
+    at_least("BINTURAMIS_PAGES", least)
 }

@@ -4,6 +4,8 @@ use std::io::{self, Read};
 
 use second::{Processor, PICTURE, ROWS};
 
+use crate::conversation::Question;
+
 #[derive(Clone, Debug, PartialEq, Eq)]
 pub struct Request {
     pub pat: u8,
@@ -37,6 +39,18 @@ impl Request {
             marks: self.marks,
             ..Processor::power_up()
         }
+    }
+}
+
+impl Question for Request {
+    type Answer = Answer;
+
+    fn bytes(&self) -> Vec<u8> {
+        Request::bytes(self)
+    }
+
+    fn answer(&self, from: &mut impl Read) -> io::Result<Answer> {
+        Answer::read(from)
     }
 }
 
