@@ -1,7 +1,14 @@
+# make panel  the program `panel` on the example of the rules
 # make test   the gate: proofs, must-fail edits, programs, host tests
 # make check  the proofs alone, over what has changed
 # make format the layout of every file
-.PHONY: test check format
+.PHONY: panel test check format
+
+panel: target/bin/panel
+	@cd host && cargo run --quiet --release --offline -p compare --example panel <../crates/panel/stdin
+
+target/bin/panel:
+	rt check panel
 
 test:
 	./.ci/run
