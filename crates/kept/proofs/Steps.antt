@@ -1,0 +1,58 @@
+-- The steps of demand 3: while a draw would get neither 7 nor 8, a row that a store or a phase change leaves unmarked keeps its 1,600
+-- bytes, for every ROM.
+-- Assumes nothing.
+use Prim.Native.Nat.{ℕ, _<_}
+use mathlib.Core.Path.{_≡_, refl, sym, ap, _∙_}
+use mathlib.Core.Bool.{Bool, true, false, not, _&&_, _||_, false≢true}
+use mathlib.Core.List.{List}
+use mathlib.Core.Logic.{⊎-elim}
+use lib.Dec.{eqb}
+use lib.ListN.{getD, set}
+use lib.Seq.{getD-set-other, set-getD}
+use borrow.Author.Tests.{eqb-true}
+use Rattle.basics.specs.Below.{anyBelow}
+use Rattle.basics.specs.Choice.{pick}
+use Rattle.basics.specs.Parts.{table}
+use Rattle.basics.proofs.Choice.{bool-cases}
+use Rattle.basics.proofs.Parts.{table-at}
+use Rattle.page.specs.Codes.{byteAt}
+use Rattle.page.specs.Inputs.{rowInput}
+use Rattle.picture.specs.Redraws.{isMarked}
+use Rattle.picture.specs.Rows.{painted}
+use Rattle.reading.specs.Lists.{onList}
+use Rattle.reading.specs.Marks.{canDraw, markedToo, storeMarks}
+use Rattle.kept.specs.Agreeing.{Agree}
+use Rattle.kept.proofs.Frame.{bytes-same}
+
+or-none : (a b : Bool) → (a || b) ≡ false → b ≡ false
+or-none true b e = absurd (false≢true (sym e))
+or-none false b e = e
+
+-- a row that was not marked too did not pass
+not-passed : (f : ℕ → Bool) (marks : List Bool) (r : ℕ) → r < 25 → isMarked (markedToo f marks) r ≡ false → f r ≡ false
+unfolding markedToo
+not-passed f marks r l e = or-none (isMarked marks r) (f r) (sym (table-at (λ s. isMarked marks s || f s) 25 r false l) ∙ e)
+
+-- a byte that is on no list of the row: the memories agree on what is on it
+agree-off : (ror dor : ℕ) (m : List ℕ) (p v r : ℕ) → onList ror dor m p r ≡ false → Agree (λ q. onList ror dor m q r) m (set m p v)
+agree-off ror dor m p v r off q on =
+    sym (getD-set-other m p q v 0 (λ e. false≢true (sym off ∙ ap (λ (s : ℕ). onList ror dor m s r) (sym e) ∙ on)))
+
+-- a store
+module _ (tgs pat dor ror : ℕ) (m : List ℕ) (p v : ℕ) (marks : List Bool) (can : canDraw tgs pat ror ≡ true) (r : ℕ) (l : r < 25) where
+  abbrev Kept-bytes : Type 0
+  Kept-bytes = (rom : List ℕ) (phase : ℕ) → painted rom pat phase (rowInput ror dor (set m p v) r) ≡ painted rom pat phase (rowInput ror dor m r)
+
+  unchanged : byteAt m p ≡ v → Kept-bytes
+  unchanged e rom phase = ap (λ (n : List ℕ). painted rom pat phase (rowInput ror dor n r)) (ap (set m p) (sym e) ∙ set-getD m p 0)
+
+  changed : eqb (byteAt m p) v ≡ false → isMarked (storeMarks tgs pat dor ror m p v marks) r ≡ false → Kept-bytes
+  unfolding storeMarks
+  changed e unmarked rom phase =
+      sym (bytes-same ror dor m (set m p v) r
+      (agree-off ror dor m p v r
+      (not-passed (onList ror dor m p) marks r l (rw (can, e) at unmarked)))
+      rom pat phase)
+
+  pub store-keeps : isMarked (storeMarks tgs pat dor ror m p v marks) r ≡ false → Kept-bytes
+  store-keeps unmarked = ⊎-elim (λ e. unchanged (eqb-true _ _ e)) (λ e. changed e unmarked) (bool-cases (eqb (byteAt m p) v))
