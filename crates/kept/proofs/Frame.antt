@@ -1,31 +1,27 @@
 -- The frame law. Two memories that agree on every place that row r's list holds in the first: r's list is the same in the second, and so
 -- is all that r takes from memory, and with it r's 1,600 bytes for every ROM, PAT and phase.
 -- Assumes nothing.
-use Prim.Native.Nat.{ℕ, zero, suc, _<_, _≤_}
-use mathlib.Core.Path.{_≡_, refl, sym, ap, ap₂, _∙_}
+use Prim.Native.Nat.{ℕ, zero, suc, _<_}
+use mathlib.Core.Path.{_≡_, refl, ap}
 use mathlib.Core.Bool.{Bool, true, false, not, _&&_, _||_}
-use mathlib.Core.List.{List, [], _∷_}
+use mathlib.Core.List.{List}
 use native.Mathlib.Omega.{arith}
 use borrow.Author.Tests.{eq-eqb}
 use lib.Dec.{eqb}
-use Rattle.basics.specs.Below.{anyBelow}
-use Rattle.basics.specs.Parts.{table}
 use Rattle.basics.proofs.Choice.{and-both, or-left, or-right}
 use Rattle.basics.proofs.Below.{any-hit, any-same}
 use Rattle.basics.proofs.Parts.{table-same}
-use Rattle.address.specs.Places.{placeOf, blockOf}
 use Rattle.address.specs.Slices.{slicePlaceOf}
 use Rattle.address.specs.declared.slice.SlicePlace.{SlicePlace}
 use Rattle.address.specs.declared.slice.SlicePlace.the-variants.{At, NoByte}
-use Rattle.page.specs.Codes.{byteAt, yorOf, firstBlock, codeOf, codeAt}
-use Rattle.page.specs.Halves.{isTall, isWide, sameCode, goesOn, secondHalf, lowerHalf, rightHalf}
+use Rattle.page.specs.Codes.{byteAt, codeOf, codeAt}
+use Rattle.page.specs.Halves.{isTall, isWide, goesOn, secondHalf, lowerHalf, rightHalf}
 use Rattle.page.specs.Sources.{cellSource, characterOf, byteOr, keptSlice}
-use Rattle.page.specs.Inputs.{decoded, Slices, takenFrom, CellInput, cellInput, rowInput}
+use Rattle.page.specs.Inputs.{decoded, Slices, takenFrom, cellInput, rowInput}
 use Rattle.page.specs.declared.source.Source.{Source}
 use Rattle.page.specs.declared.source.Source.the-variants.{Rom, Block}
 use Rattle.page.proofs.Halves.{half-same}
-use Rattle.picture.specs.declared.settings.Settings.{Settings}
-use Rattle.picture.specs.Rows.{painted, rowOf}
+use Rattle.picture.specs.Rows.{painted}
 use Rattle.reading.specs.Lists.{codePlace, codeHolds, rowHolds, isAt, sourceHolds, cellHolds, slicesHold, hasTall, aboveHolds, onList}
 use Rattle.kept.specs.Agreeing.{Agree}
 

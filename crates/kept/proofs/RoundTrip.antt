@@ -2,7 +2,7 @@
 -- state has become, as long as the memory is the one that was left.
 -- Assumes nothing.
 use Prim.Native.Nat.{ℕ, _<_}
-use mathlib.Core.Path.{_≡_, refl, sym, ap, _∙_}
+use mathlib.Core.Path.{_≡_, refl, ap, _∙_}
 use mathlib.Core.Bool.{Bool, true, false}
 use mathlib.Core.List.{List}
 use native.Mathlib.Omega.{arith}
@@ -14,7 +14,7 @@ use Rattle.basics.specs.Choice.{pick}
 use Rattle.address.specs.Triples.{legal}
 use Rattle.address.specs.declared.triple.Triple.{Triple}
 use Rattle.processor.specs.declared.state.Processor.{Processor}
-use Rattle.processor.specs.States.{Kept, kept, registerOf, withRegister, withLx, cleared}
+use Rattle.processor.specs.States.{kept, registerOf, cleared}
 use Rattle.processor.specs.Pointers.{pointerOf, nextX, incremented, incrementedIf}
 use Rattle.processor.specs.Bytes.{blockAt, loaded, stored, octet, codeRead, codeStored, code}
 use Rattle.kept.proofs.Stores.{stored-here, code-c, code-b, code-a}

@@ -7,20 +7,20 @@ use mathlib.Core.Bool.{Bool, true, false, not, _&&_, _||_, false≢true}
 use mathlib.Core.List.{List}
 use mathlib.Core.Logic.{⊎-elim}
 use lib.Dec.{eqb}
-use lib.ListN.{getD, set}
+use lib.ListN.{set}
 use lib.Seq.{getD-set-other, set-getD}
 use borrow.Author.Tests.{eqb-true}
-use Rattle.basics.specs.Below.{anyBelow}
 use Rattle.basics.specs.Choice.{pick}
-use Rattle.basics.specs.Parts.{table}
 use Rattle.basics.proofs.Choice.{bool-cases}
+use Rattle.basics.proofs.Below.{any-same}
 use Rattle.basics.proofs.Parts.{table-at}
 use Rattle.page.specs.Codes.{byteAt}
-use Rattle.page.specs.Inputs.{rowInput}
+use Rattle.page.specs.Inputs.{CellInput, cellInput, rowInput, flashes, noInput}
 use Rattle.picture.specs.Redraws.{isMarked}
 use Rattle.picture.specs.Rows.{painted}
 use Rattle.reading.specs.Lists.{onList}
-use Rattle.reading.specs.Marks.{canDraw, markedToo, storeMarks}
+use Rattle.reading.specs.Marks.{canDraw, markedToo, storeMarks, flashIn, phaseMarks}
+use Rattle.picture.proofs.Phases.{anyFlashes, painted-steady}
 use Rattle.kept.specs.Agreeing.{Agree}
 use Rattle.kept.proofs.Frame.{bytes-same}
 
@@ -28,7 +28,21 @@ or-none : (a b : Bool) → (a || b) ≡ false → b ≡ false
 or-none true b e = absurd (false≢true (sym e))
 or-none false b e = e
 
--- a row that was not marked too did not pass
+or-neither : (a b : Bool) → (a || b) ≡ false → a ≡ false
+or-neither true b e = e
+or-neither false b e = refl
+
+-- a row that was not marked too was not marked before
+not-before : (f : ℕ → Bool) (marks : List Bool) (r : ℕ) → r < 25 → isMarked (markedToo f marks) r ≡ false → isMarked marks r ≡ false
+unfolding markedToo
+not-before f marks r l e = or-neither (isMarked marks r) (f r) (sym (table-at (λ s. isMarked marks s || f s) 25 r false l) ∙ e)
+
+chosen-before :
+    (b : Bool) (f : ℕ → Bool) (marks : List Bool) (r : ℕ) → r < 25 → isMarked (pick b (markedToo f marks) marks) r ≡ false → isMarked marks r ≡ false
+chosen-before true f marks r l e = not-before f marks r l e
+chosen-before false f marks r l e = e
+
+-- and it did not pass
 not-passed : (f : ℕ → Bool) (marks : List Bool) (r : ℕ) → r < 25 → isMarked (markedToo f marks) r ≡ false → f r ≡ false
 unfolding markedToo
 not-passed f marks r l e = or-none (isMarked marks r) (f r) (sym (table-at (λ s. isMarked marks s || f s) 25 r false l) ∙ e)
@@ -39,6 +53,13 @@ agree-off ror dor m p v r off q on =
     sym (getD-set-other m p q v 0 (λ e. false≢true (sym off ∙ ap (λ (s : ℕ). onList ror dor m s r) (sym e) ∙ on)))
 
 -- a store
+pub store-before :
+    (tgs pat dor ror : ℕ) (m : List ℕ) (p v : ℕ) (marks : List Bool) (r : ℕ) → r < 25 →
+    isMarked (storeMarks tgs pat dor ror m p v marks) r ≡ false → isMarked marks r ≡ false
+unfolding storeMarks
+store-before tgs pat dor ror m p v marks r l e =
+    chosen-before (canDraw tgs pat ror && not (eqb (byteAt m p) v)) (onList ror dor m p) marks r l e
+
 module _ (tgs pat dor ror : ℕ) (m : List ℕ) (p v : ℕ) (marks : List Bool) (can : canDraw tgs pat ror ≡ true) (r : ℕ) (l : r < 25) where
   abbrev Kept-bytes : Type 0
   Kept-bytes = (rom : List ℕ) (phase : ℕ) → painted rom pat phase (rowInput ror dor (set m p v) r) ≡ painted rom pat phase (rowInput ror dor m r)
@@ -56,3 +77,20 @@ module _ (tgs pat dor ror : ℕ) (m : List ℕ) (p v : ℕ) (marks : List Bool) 
 
   pub store-keeps : isMarked (storeMarks tgs pat dor ror m p v marks) r ≡ false → Kept-bytes
   store-keeps unmarked = ⊎-elim (λ e. unchanged (eqb-true _ _ e)) (λ e. changed e unmarked) (bool-cases (eqb (byteAt m p) v))
+
+-- a phase change
+module _ (tgs pat dor ror : ℕ) (m : List ℕ) (marks : List Bool) (r : ℕ) (l : r < 25) where
+  pub phase-before : isMarked (phaseMarks tgs pat ror m marks) r ≡ false → isMarked marks r ≡ false
+  unfolding phaseMarks
+  phase-before e = chosen-before (canDraw tgs pat ror) (flashIn ror m) marks r l e
+
+  still : flashIn ror m r ≡ false → anyFlashes (rowInput ror dor m r) ≡ false
+  unfolding flashIn rowInput cellInput
+  still e =
+      any-same _ _ 40 (λ x h. ap (λ (c : CellInput). flashes (c .code)) (table-at (cellInput ror dor m r) 40 x noInput h)) ∙ e
+
+  pub phase-keeps :
+      canDraw tgs pat ror ≡ true → isMarked (phaseMarks tgs pat ror m marks) r ≡ false → (rom : List ℕ) (a b : ℕ) →
+      painted rom pat a (rowInput ror dor m r) ≡ painted rom pat b (rowInput ror dor m r)
+  unfolding phaseMarks
+  phase-keeps can e rom a b = painted-steady rom pat a b (rowInput ror dor m r) (still (not-passed (flashIn ror m) marks r l (rw can at e)))

@@ -2,18 +2,15 @@
 -- stored are the three that are read.
 -- Assumes nothing.
 use Prim.Native.Nat.{ℕ, _<_}
-use mathlib.Core.Path.{_≡_, refl, sym, ap, _∙_}
-use mathlib.Core.Bool.{Bool, true}
-use mathlib.Core.List.{List}
+use mathlib.Core.Path.{_≡_, refl, ap, _∙_}
+use mathlib.Core.Bool.{true}
 use mathlib.Core.Logic.{_≢_}
 use native.Mathlib.Omega.{arith}
 use lib.ListN.{length, length-set}
 use lib.Seq.{getD-set-same, getD-set-other}
 use Rattle.address.specs.Triples.{legal}
-use Rattle.address.specs.Places.{blockOf}
 use Rattle.address.specs.declared.triple.Triple.{Triple}
 use Rattle.address.proofs.Places.{legal-place, legal-injective, blocks-differ}
-use Rattle.processor.specs.declared.state.Processor.{Processor}
 use Rattle.processor.specs.States.{Kept, registerOf}
 use Rattle.processor.specs.Bytes.{placeAt, blockAt, loaded, stored, codeStored}
 use Rattle.processor.proofs.Laws.{legal-blocks}
