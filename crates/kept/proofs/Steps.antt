@@ -8,7 +8,7 @@ use mathlib.Core.List.{List}
 use mathlib.Core.Logic.{⊎-elim}
 use lib.Dec.{eqb}
 use lib.ListN.{set}
-use lib.Seq.{getD-set-other, set-getD}
+use lib.Seq.{getD-set-other, set-getD, set-set}
 use borrow.Author.Tests.{eqb-true}
 use Rattle.basics.specs.Choice.{pick}
 use Rattle.basics.proofs.Choice.{bool-cases}
@@ -22,7 +22,7 @@ use Rattle.reading.specs.Lists.{onList}
 use Rattle.reading.specs.Marks.{canDraw, markedToo, storeMarks, flashIn, phaseMarks}
 use Rattle.picture.proofs.Phases.{anyFlashes, painted-steady}
 use Rattle.kept.specs.Agreeing.{Agree}
-use Rattle.kept.proofs.Frame.{bytes-same}
+use Rattle.kept.proofs.Frame.{list-same, bytes-same}
 
 or-none : (a b : Bool) → (a || b) ≡ false → b ≡ false
 or-none true b e = absurd (false≢true (sym e))
@@ -94,3 +94,23 @@ module _ (tgs pat dor ror : ℕ) (m : List ℕ) (marks : List Bool) (r : ℕ) (l
       painted rom pat a (rowInput ror dor m r) ≡ painted rom pat b (rowInput ror dor m r)
   unfolding phaseMarks
   phase-keeps can e rom a b = painted-steady rom pat a b (rowInput ror dor m r) (still (not-passed (flashIn ror m) marks r l (rw can at e)))
+
+-- a byte is on a row's list before a store to it exactly when it is after
+module _ (ror dor : ℕ) (m : List ℕ) (p v r : ℕ) where
+  -- off the list before: the list is the same after
+  off-after : onList ror dor m p r ≡ false → onList ror dor (set m p v) p r ≡ false
+  off-after off = sym (list-same ror dor m (set m p v) r (agree-off ror dor m p v r off) p) ∙ off
+
+  -- off the list after: the store taken back changes nothing that the row reads
+  off-before : onList ror dor (set m p v) p r ≡ false → onList ror dor m p r ≡ false
+  off-before off =
+      sym (ap (λ (n : List ℕ). onList ror dor n p r) (set-set m p v (byteAt m p) ∙ set-getD m p 0))
+      ∙ sym (list-same ror dor (set m p v) (set (set m p v) p (byteAt m p)) r (agree-off ror dor (set m p v) p (byteAt m p) r off) p)
+      ∙ off
+
+  pub list-stable : onList ror dor m p r ≡ onList ror dor (set m p v) p r
+  list-stable =
+      ⊎-elim
+      (λ t. ⊎-elim (λ u. t ∙ sym u) (λ u. absurd (false≢true (sym (off-before u) ∙ t))) (bool-cases (onList ror dor (set m p v) p r)))
+      (λ o. o ∙ sym (off-after o))
+      (bool-cases (onList ror dor m p r))
