@@ -1,3 +1,4 @@
 pub mod Agreeing
 pub mod Fresh
+pub mod Orders
 pub mod Runs
