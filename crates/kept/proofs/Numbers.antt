@@ -98,11 +98,11 @@ said-of o = drawNumberOf (o .answer)
 five :
     (a b c d e : Bool) (p : Processor) (picture : List ℕ) (done : DrawOutcome) → said-of done ≡ 0 →
     said-of
-        (pick a
-        (pick b
-        (pick c (pick d (drawOutcome p picture drawing.NotBuilt) (pick e (drawOutcome p picture drawing.LowOrigin) done)) (drawOutcome p picture drawing.WrongPicture))
-        (drawOutcome p picture drawing.WrongRom))
-        (drawOutcome p picture drawing.WrongMemory))
+    (pick a
+    (pick b
+    (pick c (pick d (drawOutcome p picture drawing.NotBuilt) (pick e (drawOutcome p picture drawing.LowOrigin) done)) (drawOutcome p picture drawing.WrongPicture))
+    (drawOutcome p picture drawing.WrongRom))
+    (drawOutcome p picture drawing.WrongMemory))
     ≡ pick (not a) 1 (pick (not b) 5 (pick (not c) 6 (pick d 7 (pick e 8 0))))
 five true true true false false p picture done h = h
 five true true true false true p picture done h = refl

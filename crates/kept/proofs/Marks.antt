@@ -1,0 +1,82 @@
+-- Marks are exact: after each thing that can mark, row r is marked exactly when it was before, or the rule marks it.
+-- Assumes nothing.
+use Prim.Native.Nat.{ℕ, _<_}
+use mathlib.Core.Path.{_≡_, refl, sym, _∙_}
+use mathlib.Core.Bool.{Bool, true, false, not, _&&_, _||_}
+use mathlib.Core.List.{List}
+use lib.Dec.{eqb}
+use lib.ListN.{getD}
+use Rattle.basics.specs.Choice.{pick}
+use Rattle.basics.specs.Parts.{table}
+use Rattle.basics.proofs.Parts.{table-at}
+use Rattle.address.specs.declared.triple.Triple.{Triple}
+use Rattle.picture.specs.Redraws.{isMarked}
+use Rattle.reading.specs.Lists.{onList}
+use Rattle.reading.specs.Marks.{canDraw, markedToo, storeMarks, flashIn, phaseMarks}
+use Rattle.processor.specs.declared.state.Processor.{Processor}
+use Rattle.processor.specs.States.{Kept, kept, allMarked, noneMarked, registerOf, tgsOf, patOf, dorOf, rorOf, indirectWritten, withPhase}
+use Rattle.processor.specs.Bytes.{placeAt, loaded, stored}
+use Rattle.processor.specs.Access.{phased}
+use Rattle.processor.specs.Draws.{drawnPage}
+
+or-false : (a : Bool) → (a || false) ≡ a
+or-false true = refl
+or-false false = refl
+
+or-true : (a : Bool) → (a || true) ≡ true
+or-true true = refl
+or-true false = refl
+
+too :
+    (b : Bool) (f : ℕ → Bool) (marks : List Bool) (r : ℕ) → r < 25 → isMarked (pick b (markedToo f marks) marks) r ≡ (isMarked marks r || (b && f r))
+unfolding markedToo
+too true f marks r l = table-at (λ s. isMarked marks s || f s) 25 r false l
+too false f marks r l = sym (or-false (isMarked marks r))
+
+all :
+    (b : Bool) (marks : List Bool) (r : ℕ) → r < 25 → isMarked (pick b allMarked marks) r ≡ (isMarked marks r || b)
+all true marks r l = table-at (λ s. true) 25 r false l ∙ sym (or-true (isMarked marks r))
+all false marks r l = sym (or-false (isMarked marks r))
+
+-- a store: a draw would get neither 7 nor 8, the byte changes, and the row's list, taken just before, holds it
+pub store-marks-exact :
+    (t : Triple) (v : ℕ) (k : Kept) (r : ℕ) → r < 25 →
+    let p = k .processor in
+    isMarked (stored t v k .processor .marks) r
+    ≡ (isMarked (p .marks) r
+    || ((canDraw (tgsOf p) (patOf p) (rorOf p) && not (eqb (loaded t (k .memory)) v)) && onList (rorOf p) (dorOf p) (k .memory) (placeAt t) r))
+unfolding stored storeMarks
+store-marks-exact t v k r l =
+    let p = k .processor in
+    too (canDraw (tgsOf p) (patOf p) (rorOf p) && not (eqb (loaded t (k .memory)) v)) (onList (rorOf p) (dorOf p) (k .memory) (placeAt t)) (p .marks) r l
+
+-- IND: a changed value in any register but MAT
+pub indirect-marks-exact :
+    (p : Processor) (n r : ℕ) → r < 25 →
+    isMarked (indirectWritten p n .marks) r ≡ (isMarked (p .marks) r || (not (eqb (getD (p .indirect) n 0) (registerOf p 1)) && not (eqb n 2)))
+unfolding indirectWritten
+indirect-marks-exact p n r l = all (not (eqb (getD (p .indirect) n 0) (registerOf p 1)) && not (eqb n 2)) (p .marks) r l
+
+turns :
+    (same can : Bool) (f : ℕ → Bool) (n : ℕ) (k : Kept) (r : ℕ) → r < 25 →
+    isMarked (pick same k (kept (withPhase (k .processor) n (pick can (markedToo f (k .processor .marks)) (k .processor .marks))) (k .memory)) .processor .marks) r
+    ≡ (isMarked (k .processor .marks) r || (not same && (can && f r)))
+turns true can f n k r l = sym (or-false (isMarked (k .processor .marks) r))
+turns false can f n k r l = too can f (k .processor .marks) r l
+
+-- a phase change: the phase changes, a draw would get neither 7 nor 8, and the row has a bichrome cell whose A3 is set
+pub phase-marks-exact :
+    (n : ℕ) (k : Kept) (r : ℕ) → r < 25 →
+    let p = k .processor in
+    isMarked (phased n k .processor .marks) r
+    ≡ (isMarked (p .marks) r || (not (eqb (p .phase) n) && (canDraw (tgsOf p) (patOf p) (rorOf p) && flashIn (rorOf p) (k .memory) r)))
+unfolding phased phaseMarks
+phase-marks-exact n k r l =
+    let p = k .processor in
+    turns (eqb (p .phase) n) (canDraw (tgsOf p) (patOf p) (rorOf p)) (flashIn (rorOf p) (k .memory)) n k r l
+
+-- an accepted draw clears them
+pub draw-marks-exact :
+    (p : Processor) (m rom picture : List ℕ) (r : ℕ) → r < 25 → isMarked (drawnPage p m rom picture .processor .marks) r ≡ false
+unfolding drawnPage
+draw-marks-exact p m rom picture r l = table-at (λ s. false) 25 r false l
