@@ -39,10 +39,7 @@ use Rattle.processor.specs.Draws.{DrawOutcome, drawOutcome, settingsOf, drawnPa
 use Rattle.kept.specs.Fresh.{FreshOn, Fresh, FreshIn}
 use Rattle.kept.specs.Runs.{Operation, write, read, turn, draw, World, first, step, run, drawnIn}
 use Rattle.kept.proofs.Steps.{store-before, store-keeps, phase-before, phase-keeps}
-
-pick-known : {A : Type 0} (P : A → Type 0) (b : Bool) (x y : A) → (b ≡ true → P x) → (b ≡ false → P y) → P (pick b x y)
-pick-known P true x y p q = p refl
-pick-known P false x y p q = q refl
+use Rattle.kept.proofs.Picks.{pick-known}
 
 neither : (a b : Bool) → a ≡ false → b ≡ false → (not a && not b) ≡ true
 neither true b p q = absurd (false≢true (sym p))

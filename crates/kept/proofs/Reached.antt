@@ -1,14 +1,12 @@
 -- Each number from 0 to 9 is given by some input.
 -- Assumes nothing.
 use Prim.Native.Nat.{ℕ}
-use mathlib.Core.Path.{_≡_, refl, _∙_}
+use mathlib.Core.Path.{_≡_, _∙_}
 use mathlib.Core.List.{List, [], _∷_}
 use lib.ListN.{length}
-use Rattle.basics.specs.Bits.{bits, isSet}
 use Rattle.basics.specs.Parts.{table}
 use Rattle.basics.proofs.Parts.{length-table}
 use Rattle.address.specs.Triples.{legal, onPage, legalY}
-use Rattle.page.specs.Codes.{yorOf}
 use Rattle.reading.specs.Marks.{refused7, refused8}
 use Rattle.processor.specs.declared.state.Processor.{Processor}
 use Rattle.processor.specs.Answers.{numberOf, drawNumberOf}

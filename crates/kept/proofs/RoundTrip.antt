@@ -10,7 +10,6 @@ use lib.Dec.{eqb}
 use lib.ListN.{length, getD, set, length-set}
 use lib.Seq.{getD-set-same, getD-set-other}
 use Rattle.basics.specs.Bits.{bits}
-use Rattle.basics.specs.Choice.{pick}
 use Rattle.address.specs.Triples.{legal}
 use Rattle.address.specs.declared.triple.Triple.{Triple}
 use Rattle.processor.specs.declared.state.Processor.{Processor}
@@ -18,20 +17,17 @@ use Rattle.processor.specs.States.{kept, registerOf, cleared}
 use Rattle.processor.specs.Pointers.{pointerOf, nextX, incremented, incrementedIf}
 use Rattle.processor.specs.Bytes.{blockAt, loaded, stored, octet, codeRead, codeStored, code}
 use Rattle.kept.proofs.Stores.{stored-here, code-c, code-b, code-a}
-
-pick-at : (f : Processor → ℕ) (b : Bool) (x y : Processor) (v : ℕ) → f x ≡ v → f y ≡ v → f (pick b x y) ≡ v
-pick-at f true x y v p q = p
-pick-at f false x y v p q = q
+use Rattle.kept.proofs.Picks.{pick-either}
 
 -- an increment leaves R0 to R3
 increment-keeps : (auxiliary : Bool) (p : Processor) (i : ℕ) → i < 4 → registerOf (incremented auxiliary p) i ≡ registerOf p i
 unfolding incremented
 increment-keeps true p i l =
     let e = getD-set-other (p .registers) 5 i (nextX (registerOf p 5)) 0 (λ q. omega arith) in
-    pick-at (λ q. registerOf q i) (eqb (bits 0 6 (registerOf p 5)) 39) _ _ _ e e
+    pick-either (λ (q : Processor). registerOf q i ≡ registerOf p i) (eqb (bits 0 6 (registerOf p 5)) 39) _ _ e e
 increment-keeps false p i l =
     let e = getD-set-other (p .registers) 7 i (nextX (registerOf p 7)) 0 (λ q. omega arith) in
-    pick-at (λ q. registerOf q i) (eqb (bits 0 6 (registerOf p 7)) 39) _ _ _ e e
+    pick-either (λ (q : Processor). registerOf q i ≡ registerOf p i) (eqb (bits 0 6 (registerOf p 7)) 39) _ _ e e
 
 asked-keeps : (asked auxiliary : Bool) (p : Processor) (i : ℕ) → i < 4 → registerOf (incrementedIf asked auxiliary p) i ≡ registerOf p i
 unfolding incrementedIf

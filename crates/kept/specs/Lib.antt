@@ -1,4 +1,5 @@
 pub mod Agreeing
 pub mod Fresh
 pub mod Orders
+pub mod Quiet
 pub mod Runs
