@@ -27,7 +27,7 @@ use Rattle.processor.specs.Draws.{drawnPage}
 use Rattle.kept.specs.Quiet.{isMarker}
 use Rattle.kept.proofs.Picks.{pick-known, pick-either, and-none}
 
-or-false : (a : Bool) → (a || false) ≡ a
+pub or-false : (a : Bool) → (a || false) ≡ a
 or-false true = refl
 or-false false = refl
 
