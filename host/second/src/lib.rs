@@ -11,6 +11,7 @@ pub mod cell;
 pub mod colour;
 pub mod command;
 mod execute;
+pub mod forty_columns;
 pub mod half;
 pub mod marks;
 pub mod operation;
