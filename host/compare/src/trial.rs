@@ -5,7 +5,7 @@ use std::collections::VecDeque;
 
 use second::random::Random;
 use second::sequence::Sequence;
-use second::{Answer, Operation, MEMORY};
+use second::MEMORY;
 
 use crate::desk::Desk;
 use crate::lengths::{Lengths, SPARE};
@@ -67,7 +67,7 @@ impl Trial {
         });
     }
 
-    /// One operation, and a look at the buffers where it could have changed them.
+    /// One operation, and a look at the whole buffers.
     fn make(&mut self) {
         let asked = self.asked();
         let answer = self.desk.apply(asked);
@@ -75,12 +75,8 @@ impl Trial {
         self.last = Some(asked);
         let report = Report::wanted(answer, &self.desk.processor);
         self.push(Record::Operation(asked), Reply::Report(report));
-        if self.looks_at_memory(asked, answer) {
-            self.push(Record::Memory, Reply::Buffer(self.desk.memory.clone()));
-        }
-        if self.looks_at_picture(asked, answer) {
-            self.push(Record::Picture, Reply::Buffer(self.desk.picture.clone()));
-        }
+        self.push(Record::Memory, Reply::Buffer(self.desk.memory.clone()));
+        self.push(Record::Picture, Reply::Buffer(self.desk.picture.clone()));
     }
 
     /// Most often the sequence's next operation with the right lengths. Unplanned ones come before
@@ -97,20 +93,6 @@ impl Trial {
             operation: self.sequence.operation(&self.desk.processor, memory),
             lengths: Lengths::RIGHT,
         }
-    }
-
-    /// After a refusal, after every access that asks for execution, and now and then.
-    fn looks_at_memory(&self, asked: Asked, answer: Answer) -> bool {
-        let executes = match asked.operation {
-            Operation::Write { address, .. } | Operation::Read { address } => address / 8 % 2 == 1,
-            Operation::Turn { .. } | Operation::Draw => false,
-        };
-        answer.number != 0 || executes || self.made.is_multiple_of(16) || self.is_at_end()
-    }
-
-    /// After a refusal and after every draw.
-    fn looks_at_picture(&self, asked: Asked, answer: Answer) -> bool {
-        answer.number != 0 || asked.operation == Operation::Draw || self.is_at_end()
     }
 
     fn is_at_end(&self) -> bool {
