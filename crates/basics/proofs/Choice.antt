@@ -1,11 +1,12 @@
--- Cases of a test, and what a test made of two says of each.
+-- Cases of a test, what a test made of two says of each, and properties through a choice.
 -- Assumes nothing.
 use Prim.Native.Nat.{ℕ, _<_, _≤_}
-use mathlib.Core.Path.{_≡_, refl}
+use mathlib.Core.Path.{_≡_, refl, sym}
 use mathlib.Core.Bool.{Bool, true, false, _&&_, _||_, false≢true}
 use mathlib.Core.Logic.{_⊎_, inl, inr, ⊎-elim}
 use lib.Dec.{ltb, eqb}
 use borrow.Author.Tests.{ltb-true, ltb-false, eqb-true, eqb-false}
+use Rattle.basics.specs.Choice.{pick}
 
 pub bool-cases : (b : Bool) → (b ≡ true) ⊎ (b ≡ false)
 bool-cases true = inl refl
@@ -40,3 +41,25 @@ or-left false b e = absurd (false≢true e)
 pub or-right : (a b : Bool) → b ≡ true → (a || b) ≡ true
 or-right true b e = refl
 or-right false b e = e
+
+-- a test that fails, and one of its two that holds or not
+pub and-none : (a b : Bool) → (a && b) ≡ false → a ≡ true → b ≡ false
+and-none true b e t = e
+and-none false b e t = absurd (false≢true t)
+
+pub or-none : (a b : Bool) → (a || b) ≡ false → b ≡ false
+or-none true b e = absurd (false≢true (sym e))
+or-none false b e = e
+
+pub or-neither : (a b : Bool) → (a || b) ≡ false → a ≡ false
+or-neither true b e = e
+or-neither false b e = refl
+
+-- a property through a choice, with what is known on either side
+pub pick-known : {A : Type 0} (P : A → Type 0) (b : Bool) (x y : A) → (b ≡ true → P x) → (b ≡ false → P y) → P (pick b x y)
+pick-known P true x y p q = p refl
+pick-known P false x y p q = q refl
+
+-- a property of both sides
+pub pick-either : {A : Type 0} (P : A → Type 0) (b : Bool) (x y : A) → P x → P y → P (pick b x y)
+pick-either P b x y p q = pick-known P b x y (λ e. p) (λ e. q)

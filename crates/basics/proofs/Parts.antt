@@ -8,7 +8,7 @@ use native.Mathlib.Nat.{not-suc-le-zero, le-of-suc-le-suc, eq-or-lt-of-le, mul-z
 use native.Mathlib.Numerals.{add-one}
 use native.Mathlib.Omega.{arith}
 use lib.ListN.{length, getD, take, drop, length-append, length-drop}
-use lib.Seq.{drop-at, take-append-le, drop-append-le, take-add, take-all, getD-take, getD-drop}
+use lib.Seq.{drop-at, take-append-le, drop-append-le, take-add, take-all, getD-take, getD-drop, ext-getD}
 use Rattle.basics.specs.Parts.{joined, table, partOf}
 
 module _ {A : Type 0} where
@@ -95,3 +95,9 @@ module _ {A : Type 0} where
 
   pub table-same : (f g : ℕ → A) (n : ℕ) → ((i : ℕ) → i < n → f i ≡ g i) → table f n ≡ table g n
   table-same f g n e = joined-same (λ i. f i ∷ []) (λ i. g i ∷ []) n (λ i h. ap (λ (a : A). a ∷ []) (e i h))
+
+  -- a list is the table of its elements
+  pub table-of : (xs : List A) (n : ℕ) (d : A) → length xs ≡ n → xs ≡ table (λ i. getD xs i d) n
+  table-of xs n d h =
+      ext-getD d xs (table (λ i. getD xs i d) n) (h ∙ sym (length-table (λ i. getD xs i d) n))
+      (λ i l. sym (table-at (λ j. getD xs j d) n i d (rw (← h) l)))

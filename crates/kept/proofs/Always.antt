@@ -14,7 +14,7 @@ use borrow.Author.Tests.{eqb-true}
 use Rattle.basics.specs.Bits.{bits, isSet}
 use Rattle.basics.specs.Choice.{pick}
 use Rattle.basics.specs.Parts.{partOf}
-use Rattle.basics.proofs.Choice.{bool-cases}
+use Rattle.basics.proofs.Choice.{bool-cases, pick-known}
 use Rattle.basics.proofs.Parts.{table-at, joined-part}
 use Rattle.address.specs.Triples.{legal}
 use Rattle.address.specs.declared.triple.Triple.{Triple}
@@ -39,7 +39,6 @@ use Rattle.processor.specs.Draws.{DrawOutcome, drawOutcome, settingsOf, drawnPa
 use Rattle.kept.specs.Fresh.{FreshOn, Fresh, FreshIn}
 use Rattle.kept.specs.Runs.{Operation, write, read, turn, draw, World, first, step, run, drawnIn}
 use Rattle.kept.proofs.Steps.{store-before, store-keeps, phase-before, phase-keeps}
-use Rattle.kept.proofs.Picks.{pick-known}
 
 neither : (a b : Bool) → a ≡ false → b ≡ false → (not a && not b) ≡ true
 neither true b p q = absurd (false≢true (sym p))

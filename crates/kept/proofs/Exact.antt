@@ -3,10 +3,11 @@
 -- Assumes nothing.
 use Prim.Native.Nat.{ℕ, _<_}
 use mathlib.Core.Path.{_≡_, refl, sym, ap, _∙_}
-use mathlib.Core.Bool.{Bool, true, false, not, _&&_, _||_}
+use mathlib.Core.Bool.{Bool, true, false, not, _&&_, _||_, or-false, or-assoc}
 use mathlib.Core.List.{List}
 use lib.Dec.{eqb, leb}
 use lib.ListN.{length}
+use Rattle.basics.proofs.Choice.{pick-either}
 use Rattle.basics.specs.Bits.{bits, isSet}
 use Rattle.basics.specs.Choice.{pick}
 use Rattle.address.specs.Triples.{legal}
@@ -27,12 +28,7 @@ use Rattle.processor.specs.Access.{Outcome, outcome, indirect, atPointer, ran, 
 use Rattle.processor.specs.Draws.{DrawOutcome, drawOutcome, drawnPage, drawn}
 use Rattle.kept.specs.Rules.{storeRule, indirectRule, phaseRule, codeRule, commandRule, accessRule, marksRow, clears}
 use Rattle.kept.specs.Runs.{Operation, write, read, turn, draw, World, step}
-use Rattle.kept.proofs.Marks.{or-false, store-marks-exact, indirect-marks-exact, phase-marks-exact, draw-marks-exact, code-marks, code-read-marks, octet-marks, octet-read-marks}
-use Rattle.kept.proofs.Picks.{pick-either}
-
-or-assoc : (a b c : Bool) → ((a || b) || c) ≡ (a || (b || c))
-or-assoc true b c = refl
-or-assoc false b c = refl
+use Rattle.kept.proofs.Marks.{store-marks-exact, indirect-marks-exact, phase-marks-exact, draw-marks-exact, code-marks, code-read-marks, octet-marks, octet-read-marks}
 
 module _ (r : ℕ) (l : r < 25) where
   abbrev M : Kept → Bool
@@ -131,9 +127,9 @@ module _ (r : ℕ) (l : r < 25) where
   and-false true = refl
   and-false false = refl
 
-  page-cleared : (p : Processor) (m rom picture : List ℕ) → drawNumberOf (drawnPage p m rom picture .answer) ≡ 0 → Cleared p (drawnPage p m rom picture)
+  page-cleared : (p : Processor) (m rom picture : List ℕ) → Cleared p (drawnPage p m rom picture)
   unfolding drawnPage
-  page-cleared p m rom picture e = draw-marks-exact p m rom picture r l ∙ and-false (isMarked (p .marks) r)
+  page-cleared p m rom picture = draw-marks-exact p m rom picture r l ∙ and-false (isMarked (p .marks) r)
 
   drawn-cleared : (p : Processor) (m rom picture : List ℕ) → Cleared p (drawn p m rom picture)
   unfolding drawn drawnPage
@@ -143,7 +139,7 @@ module _ (r : ℕ) (l : r < 25) where
       (pick-either (Cleared p) (eqb (length picture) 40000) _ (drawOutcome p picture drawing.WrongPicture)
       (pick-either (Cleared p) (refused7 (tgsOf p) (patOf p)) (drawOutcome p picture drawing.NotBuilt) _ (and-true (isMarked (p .marks) r))
       (pick-either (Cleared p) (refused8 (rorOf p)) (drawOutcome p picture drawing.LowOrigin) (drawnPage p m rom picture) (and-true (isMarked (p .marks) r))
-      (page-cleared p m rom picture refl)))
+      (page-cleared p m rom picture)))
       (and-true (isMarked (p .marks) r)))
       (and-true (isMarked (p .marks) r)))
       (and-true (isMarked (p .marks) r))

@@ -2,10 +2,11 @@
 -- Assumes nothing.
 use Prim.Native.Nat.{ℕ, _<_}
 use mathlib.Core.Path.{_≡_, refl, sym, _∙_}
-use mathlib.Core.Bool.{Bool, true, false, not, _&&_, _||_, false≢true}
+use mathlib.Core.Bool.{Bool, true, false, not, _&&_, _||_, false≢true, or-false, or-true}
 use mathlib.Core.List.{List}
 use lib.Dec.{eqb}
 use lib.ListN.{length, getD}
+use Rattle.basics.proofs.Choice.{pick-known, pick-either, and-none}
 use Rattle.basics.specs.Bits.{bits, isSet}
 use Rattle.basics.specs.Choice.{pick}
 use Rattle.basics.proofs.Parts.{table-at}
@@ -25,15 +26,6 @@ use Rattle.processor.specs.Bytes.{placeAt, loaded, stored, octet, codeRead, cod
 use Rattle.processor.specs.Access.{Outcome, outcome, indirect, atPointer, ran, executed, checked, written, readOut, phased}
 use Rattle.processor.specs.Draws.{drawnPage}
 use Rattle.kept.specs.Quiet.{isMarker}
-use Rattle.kept.proofs.Picks.{pick-known, pick-either, and-none}
-
-pub or-false : (a : Bool) → (a || false) ≡ a
-or-false true = refl
-or-false false = refl
-
-or-true : (a : Bool) → (a || true) ≡ true
-or-true true = refl
-or-true false = refl
 
 too :
     (b : Bool) (f : ℕ → Bool) (marks : List Bool) (r : ℕ) → r < 25 → isMarked (pick b (markedToo f marks) marks) r ≡ (isMarked marks r || (b && f r))

@@ -7,6 +7,7 @@ use mathlib.Core.Bool.{Bool, true, false, _&&_, false≢true}
 use mathlib.Core.List.{List, [], _∷_}
 use lib.Dec.{eqb, leb}
 use lib.ListN.{length}
+use Rattle.basics.proofs.Choice.{pick-known, and-none}
 use Rattle.basics.specs.Bits.{bits, isSet}
 use Rattle.basics.specs.Choice.{pick}
 use Rattle.address.specs.Triples.{legal}
@@ -23,7 +24,6 @@ use Rattle.reading.specs.Marks.{phaseMarks}
 use Rattle.kept.specs.Runs.{Operation, write, read, turn, draw, World, step, run}
 use Rattle.kept.specs.Quiet.{isStore, stores, Quiet}
 use Rattle.kept.proofs.RoundTrip.{round-c, round-b, round-a, round-byte}
-use Rattle.kept.proofs.Picks.{pick-known, and-none}
 
 module _ (m : List ℕ) where
   abbrev Same : Outcome → Type 0

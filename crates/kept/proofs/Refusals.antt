@@ -9,6 +9,7 @@ use mathlib.Core.Logic.{_≢_}
 use native.Mathlib.Omega.{arith}
 use lib.Dec.{eqb, leb}
 use lib.ListN.{length}
+use Rattle.basics.proofs.Choice.{pick-either}
 use Rattle.basics.specs.Bits.{bits, isSet}
 use Rattle.basics.specs.Choice.{pick}
 use Rattle.address.specs.Triples.{legal}
@@ -25,7 +26,6 @@ use Rattle.processor.specs.States.{Kept, kept, registerOf, registerRead, withRe
 use Rattle.processor.specs.Pointers.{pointerOf}
 use Rattle.processor.specs.Access.{Outcome, outcome, atPointer, ran, executed, checked, written, readOut, phased, turned}
 use Rattle.processor.specs.declared.answer.Answer.the-variants as answer
-use Rattle.kept.proofs.Picks.{pick-either}
 
 -- after 1 and 2 what there was, k; after 3 and 4 what the register access left, j
 abbrev Leaves : Kept → Kept → Outcome → Type 0

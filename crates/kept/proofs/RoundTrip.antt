@@ -9,6 +9,7 @@ use native.Mathlib.Omega.{arith}
 use lib.Dec.{eqb}
 use lib.ListN.{length, getD, set, length-set}
 use lib.Seq.{getD-set-same, getD-set-other}
+use Rattle.basics.proofs.Choice.{pick-either}
 use Rattle.basics.specs.Bits.{bits}
 use Rattle.address.specs.Triples.{legal}
 use Rattle.address.specs.declared.triple.Triple.{Triple}
@@ -17,7 +18,6 @@ use Rattle.processor.specs.States.{kept, registerOf, cleared}
 use Rattle.processor.specs.Pointers.{pointerOf, nextX, incremented, incrementedIf}
 use Rattle.processor.specs.Bytes.{blockAt, loaded, stored, octet, codeRead, codeStored, code}
 use Rattle.kept.proofs.Stores.{stored-here, code-c, code-b, code-a}
-use Rattle.kept.proofs.Picks.{pick-either}
 
 -- an increment leaves R0 to R3
 increment-keeps : (auxiliary : Bool) (p : Processor) (i : ℕ) → i < 4 → registerOf (incremented auxiliary p) i ≡ registerOf p i

@@ -11,7 +11,7 @@ use lib.ListN.{set}
 use lib.Seq.{getD-set-other, set-getD, set-set}
 use borrow.Author.Tests.{eqb-true}
 use Rattle.basics.specs.Choice.{pick}
-use Rattle.basics.proofs.Choice.{bool-cases}
+use Rattle.basics.proofs.Choice.{bool-cases, or-none, or-neither}
 use Rattle.basics.proofs.Below.{any-same}
 use Rattle.basics.proofs.Parts.{table-at}
 use Rattle.page.specs.Codes.{byteAt}
@@ -23,14 +23,6 @@ use Rattle.reading.specs.Marks.{canDraw, markedToo, storeMarks, flashIn, phaseM
 use Rattle.picture.proofs.Phases.{anyFlashes, painted-steady}
 use Rattle.kept.specs.Agreeing.{Agree}
 use Rattle.kept.proofs.Frame.{list-same, bytes-same}
-
-or-none : (a b : Bool) → (a || b) ≡ false → b ≡ false
-or-none true b e = absurd (false≢true (sym e))
-or-none false b e = e
-
-or-neither : (a b : Bool) → (a || b) ≡ false → a ≡ false
-or-neither true b e = e
-or-neither false b e = refl
 
 -- a row that was not marked too was not marked before
 not-before : (f : ℕ → Bool) (marks : List Bool) (r : ℕ) → r < 25 → isMarked (markedToo f marks) r ≡ false → isMarked marks r ≡ false

@@ -15,9 +15,6 @@ use Rattle.basics.proofs.Choice.{bool-cases, and-left}
 use Rattle.basics.proofs.Computed.{agree-test}
 use Rattle.basics.proofs.Few.{four}
 use Rattle.basics.proofs.Parts.{length-table, length-joined, table-at, table-same, joined-same}
-use Rattle.address.specs.Slices.{slicePlaceOf}
-use Rattle.address.specs.declared.slice.SlicePlace.{SlicePlace}
-use Rattle.address.specs.declared.slice.SlicePlace.the-variants.{At, NoByte}
 use Rattle.cell.specs.declared.kind.BichromeCell.{BichromeCell}
 use Rattle.cell.specs.declared.kind.Cell.{Cell}
 use Rattle.cell.specs.declared.kind.Cell.the-variants.{Bichrome, Quadrichrome}
@@ -31,16 +28,16 @@ use Rattle.cell.proofs.Bytes.{effective-lined, effective-taken}
 use Rattle.cell.proofs.Lines.{line-parts, look-line}
 use Rattle.page.specs.Codes.{codeAt, rowBuffer}
 use Rattle.page.specs.Halves.{lowerHalf, rightHalf, lowerHalves, rightIn}
-use Rattle.page.specs.Sources.{characterOf, cellSource, keptSlice, romSlice, byteOr, sliceFrom, slicesOf}
+use Rattle.page.specs.Sources.{characterOf, cellSource, keptSlice, sliceFrom, slicesOf}
 use Rattle.page.specs.Inputs.{decoded, takenFrom, sliceByte, CellInput, cellInput, noInput, rowInput}
 use Rattle.page.specs.declared.source.Source.{Source}
 use Rattle.page.specs.declared.source.Source.the-variants.{Rom, Block}
 use Rattle.page.proofs.Halves.{right-row}
 use Rattle.picture.specs.declared.pairs.Pairs.{Pairs}
 use Rattle.picture.specs.declared.settings.Settings.{Settings}
-use Rattle.picture.specs.Lines.{wideOf, underlineOf, takenAt, tenOf, tensOf, underlineShown, linedByte, byteOn, pairAt, pairsOf, fourBy, fourOf, lineOn}
+use Rattle.picture.specs.Lines.{wideOf, underlineOf, takenAt, tenOf, tenAt, tensOf, underlineShown, linedByte, linedOn, plainOn, bytesOn, pairAt, pairsOf, fourBy, fourOf, lineOn}
 use Rattle.picture.specs.Rows.{cellLineAt, paintedCell, paintedLine, painted, rowOf}
-use Rattle.picture.proofs.Tens.{shown-small}
+use Rattle.picture.proofs.Tens.{shown-small, slice-small}
 
 -- the pairs of a row, from those of each cell
 pub pair-learnt :
@@ -68,9 +65,10 @@ four-made byte pairs a b c d p q r s =
     rw (p, q, r, s) (line-parts pairs byte (byte % 4) (byte / 4 % 4) (byte / 16 % 4) (byte / 64 % 4) (omega arith) (omega arith) (omega arith) (omega arith))
 
 -- a line is 160 bytes long
-pub line-long : (cells : List (List ℕ)) (lowers : List Bool) (tens : List (List ℕ)) (pairs : Pairs) (n : ℕ) → length (lineOn cells lowers tens pairs n) ≡ 160
+pub line-long :
+    (cells : List (List ℕ)) (lowers : List Bool) (tens none left right both : List ℕ) (n : ℕ) → length (lineOn cells lowers tens none left right both n) ≡ 160
 unfolding lineOn
-line-long cells lowers tens pairs n = length-joined 4 _ 40 (λ x l. four-long _ _)
+line-long cells lowers tens none left right both n = length-joined 4 _ 40 (λ x l. four-long _ _)
 
 -- Slice 9 of an alphanumeric is shown on the last line alone.
 upper-last : (n : ℕ) → n < 10 → (eqb n 9 && eqb (sliceOfTwenty true 9) 9) ≡ eqb (sliceOfTwenty true n) 9
@@ -127,6 +125,10 @@ by-line : (t : Bool) (plain e : ℕ) → (t ≡ true → 255 ≡ e) → (t ≡ f
 by-line true plain e p q = p refl
 by-line false plain e p q = q refl
 
+pick-both : (t u : Bool) (a b : ℕ) → pick t (pick u a b) b ≡ pick (t && u) a b
+pick-both true u a b = refl
+pick-both false u a b = refl
+
 -- the byte that the code chooses pairs by is the effective byte
 effective-byte :
     (c b a pat phase : ℕ) (lower right : Bool) (n s : ℕ) → n < 10
@@ -142,25 +144,6 @@ effective-byte c b a pat phase lower right n s l =
     ap (λ (t : Bool). pick t 255 plain) last
     ∙ by-line (look .underline && eqb number 9) plain (effectiveOf look right number s) (effective-lined look right number s)
     (λ t. ap (λ (w : Bool). numberOf (takenBit w right s) 8) (sym (look-wide cell pat phase)) ∙ effective-taken look right number s t)
-
--- a slice from memory or ROM whose elements are bytes is a byte
-module _ (m rom : List ℕ) (m-small : (i : ℕ) → getD m i 0 < 256) (rom-small : (i : ℕ) → getD rom i 0 < 256) where
-  kept-small : (c z n : ℕ) → keptSlice m c z n < 256
-  unfolding keptSlice
-  kept-small c z n = go (slicePlaceOf c n z)
-    where
-      go : (p : SlicePlace) → byteOr m p < 256
-      go (At p) = m-small p
-      go NoByte = omega arith
-
-  from-small : (c : ℕ) (source : Source) (n : ℕ) → sliceFrom m rom c source n < 256
-  unfolding romSlice
-  from-small c (Rom set) n = rom-small (1280 * set + 10 * (c % 128) + n)
-  from-small c (Block z) n = kept-small c z n
-
-  slice-small : (dor : ℕ) (cell : Cell) (n : ℕ) → slicesOf m rom dor cell n < 256
-  unfolding slicesOf
-  slice-small dor cell n = from-small (characterOf cell) (cellSource dor cell) n
 
 -- a cell's slice, through all that it takes from memory
 slice-taken : (m rom : List ℕ) (c : ℕ) (source : Source) (n : ℕ) → n < 10 → sliceFrom m rom c source n ≡ sliceByte rom c (takenFrom m c source) n
@@ -186,7 +169,7 @@ module _
   where
     -- a cell's four bytes on line n
     pub drawn-cell :
-        fourBy (linedByte code lower n (takenAt m rom dor (decoded code) lower right n))
+        fourBy (pick (eqb n 9) (linedByte code lower (takenAt m rom dor (decoded code) lower right n)) (takenAt m rom dor (decoded code) lower right n))
         (getD (lookOf (decoded code) pat phase .pairs) 0 0
         ∷ getD (lookOf (decoded code) pat phase .pairs) 1 0
         ∷ getD (lookOf (decoded code) pat phase .pairs) 2 0
@@ -200,7 +183,7 @@ module _
         let number = sliceShown cell lower n in
         let s = slicesOf m rom dor cell number in
         ap (λ (e : ℕ). fourBy e (getD (look .pairs) 0 0 ∷ getD (look .pairs) 1 0 ∷ getD (look .pairs) 2 0 ∷ getD (look .pairs) 3 0 ∷ []))
-        (effective-byte (getD code 0 0) (getD code 1 0) (getD code 2 0) pat phase lower right n s l)
+        (pick-both (eqb n 9) (underlineShown cell lower) 255 _ ∙ effective-byte (getD code 0 0) (getD code 1 0) (getD code 2 0) pat phase lower right n s l)
         ∙ four-look look right number s
         ∙ look-line pat phase right number s cell (slice-small m rom m-small rom-small dor cell number)
         ∙ ap (λ (b : ℕ). cellLine cell pat phase right number b)
@@ -208,7 +191,7 @@ module _
 
 module _
     (m rom : List ℕ) (settings : Settings) (r : ℕ) (m-small : (i : ℕ) → getD m i 0 < 256) (rom-small : (i : ℕ) → getD rom i 0 < 256)
-    (cells : List (List ℕ)) (lowers rights : List Bool) (tens : List (List ℕ)) (pairs : Pairs)
+    (cells : List (List ℕ)) (lowers rights : List Bool) (tens : List ℕ) (pairs : Pairs)
     (is-cells : cells ≡ rowBuffer (settings .ror) m r) (is-lowers : lowers ≡ lowerHalves (settings .ror) m r) (is-rights : rights ≡ table (rightIn cells) 40)
     (is-tens : tens ≡ tensOf m rom (settings .dor) cells lowers rights) (is-pairs : pairs ≡ pairsOf cells (settings .pat) (settings .phase))
   where
@@ -227,18 +210,39 @@ module _
 
     ten-is :
         (x n : ℕ) → x < 40 → n < 10
-        → getD (getD tens x []) n 0
-        ≡ takenAt m rom (settings .dor) (decoded (getD cells x [])) (getD lowers x false) (getD rights x false) n
+        → plainOn tens n x ≡ takenAt m rom (settings .dor) (decoded (getD cells x [])) (getD lowers x false) (getD rights x false) n
     unfolding tensOf tenOf
     ten-is x n l h =
-        ap (λ (z : List (List ℕ)). getD (getD z x []) n 0) is-tens
-        ∙ ap (λ (z : List ℕ). getD z n 0)
-        (table-at (λ j. tenOf m rom (settings .dor) (decoded (getD cells j [])) (getD lowers j false) (getD rights j false)) 40 x [] l)
+        let i = 40 * n + x in
+        ap (λ (z : List ℕ). getD z i 0) is-tens
+        ∙ table-at (λ j. getD (tenAt m rom (settings .dor) cells lowers rights (j % 40)) (j / 40) 0) 400 i 0 (omega arith)
+        ∙ ap (λ (z : ℕ). getD (tenAt m rom (settings .dor) cells lowers rights z) (i / 40) 0) (omega arith)
+        ∙ ap (λ (z : ℕ). getD (tenAt m rom (settings .dor) cells lowers rights x) z 0) (omega arith)
         ∙ table-at (takenAt m rom (settings .dor) (decoded (getD cells x [])) (getD lowers x false) (getD rights x false)) 10 n 0 h
+
+    -- the effective byte of cell x on line n
+    byte-is :
+        (x n : ℕ) → x < 40
+        → getD (bytesOn cells lowers tens n) x 0
+        ≡ pick (eqb n 9) (linedByte (getD cells x []) (getD lowers x false) (plainOn tens n x)) (plainOn tens n x)
+    unfolding bytesOn
+    byte-is x n l = last (eqb n 9)
+      where
+        plain : getD (table (plainOn tens n) 40) x 0 ≡ plainOn tens n x
+        plain = table-at (plainOn tens n) 40 x 0 l
+
+        last :
+            (t : Bool)
+            → getD (pick t (table (linedOn cells lowers (table (plainOn tens n) 40)) 40) (table (plainOn tens n) 40)) x 0
+            ≡ pick t (linedByte (getD cells x []) (getD lowers x false) (plainOn tens n x)) (plainOn tens n x)
+        last true =
+            table-at (linedOn cells lowers (table (plainOn tens n) 40)) 40 x 0 l
+            ∙ ap (λ (z : ℕ). linedByte (getD cells x []) (getD lowers x false) z) plain
+        last false = plain
 
     drawn-at :
         (n x : ℕ) → n < 10 → x < 40
-        → fourOf (table (byteOn cells lowers tens n) 40) (pairs .none) (pairs .left) (pairs .right) (pairs .both) x
+        → fourOf (bytesOn cells lowers tens n) (pairs .none) (pairs .left) (pairs .right) (pairs .both) x
         ≡ paintedCell rom (settings .pat) (settings .phase) n (getD (rowInput (settings .ror) (settings .dor) m r) x noInput)
     unfolding rowInput cellInput
     drawn-at n x h l =
@@ -247,7 +251,7 @@ module _
         let dor = settings .dor in
         let ror = settings .ror in
         rw (
-          table-at (byteOn cells lowers tens n) 40 x 0 l,
+          byte-is x n l,
           ten-is x n l h,
           is-pairs,
           table-at (pairAt cells pat phase 0) 40 x 0 l,
@@ -261,6 +265,6 @@ module _
         )
         (drawn-cell m rom m-small rom-small dor pat phase (codeAt ror m r x) (lowerHalf ror m r x) (rightHalf ror m r x) n h)
 
-    pub drawn-row : joined (lineOn cells lowers tens pairs) 10 ≡ rowOf m rom settings r
+    pub drawn-row : joined (lineOn cells lowers tens (pairs .none) (pairs .left) (pairs .right) (pairs .both)) 10 ≡ rowOf m rom settings r
     unfolding lineOn painted paintedLine
     drawn-row = joined-same _ _ 10 (λ n h. joined-same _ _ 40 (λ x l. drawn-at n x h l))

@@ -1,21 +1,24 @@
--- Laws of a cell's ten bytes: which slice each line shows, and the turns of the loops that gather them.
+-- Laws of a cell's ten bytes: which slice each line shows, and of it the half that is shown.
 -- Assumes nothing.
 use Prim.Native.Nat.{ℕ, _+_, _*_, _/_, _%_, _<_, _≤_}
 use mathlib.Core.Path.{_≡_, refl, sym, ap, _∙_}
 use mathlib.Core.Bool.{Bool, true, false, _&&_}
-use mathlib.Core.List.{List, []}
+use mathlib.Core.List.{List, [], _∷_}
 use mathlib.Core.Logic.{⊎-elim}
 use native.Mathlib.Omega.{arith}
 use lib.Dec.{eqb}
-use lib.ListN.{getD}
+use lib.ListN.{length, getD}
 use borrow.Author.Tests.{eq-eqb, ne-eqb, eqb-true, eqb-false}
 use Rattle.basics.specs.Choice.{pick}
 use Rattle.basics.specs.Bits.{isSet, numberOf}
-use Rattle.basics.specs.Parts.{table}
+use Rattle.basics.specs.Parts.{table, joined}
 use Rattle.basics.proofs.Bits.{byte-number}
 use Rattle.basics.proofs.Choice.{bool-cases}
 use Rattle.basics.proofs.Computed.{agree-test}
-use Rattle.basics.proofs.Parts.{table-at, table-same}
+use Rattle.basics.proofs.Parts.{table-at, table-same, table-of}
+use Rattle.address.specs.Slices.{slicePlaceOf}
+use Rattle.address.specs.declared.slice.SlicePlace.{SlicePlace}
+use Rattle.address.specs.declared.slice.SlicePlace.the-variants.{At, NoByte}
 use Rattle.cell.specs.declared.kind.BichromeCell.{BichromeCell}
 use Rattle.cell.specs.declared.kind.QuadrichromeCell.{QuadrichromeCell}
 use Rattle.cell.specs.declared.kind.Resolution.{Resolution}
@@ -26,8 +29,10 @@ use Rattle.cell.specs.Cells.{alphanumericOf}
 use Rattle.cell.specs.Slices.{sliceOfTwenty, bichromeSlice, resolvedSlice, quadrichromeSlice, sliceShown}
 use Rattle.cell.specs.Pixels.{takenBit}
 use Rattle.cell.proofs.Heights.{twenty-alphanumeric, twenty-other}
-use Rattle.page.specs.Sources.{slicesOf}
-use Rattle.picture.specs.Lines.{twentyAt, wideOf, takenAt}
+use Rattle.page.specs.Sources.{characterOf, cellSource, keptSlice, romSlice, byteOr, sliceFrom, slicesOf}
+use Rattle.page.specs.declared.source.Source.{Source}
+use Rattle.page.specs.declared.source.Source.the-variants.{Rom, Block}
+use Rattle.picture.specs.Lines.{twentyAt, wideOf, byNumber, doubledOf, tenOf}
 
 -- a slice of twenty lines is one of ten
 twenty-small : (a : Bool) (line : ℕ) → line < 20 → sliceOfTwenty a line < 10
@@ -38,15 +43,35 @@ half-small : (a lower : Bool) (n : ℕ) → n < 10 → twentyAt a lower n < 10
 half-small a true n l = twenty-small a (10 + n) (omega arith)
 half-small a false n l = twenty-small a n (omega arith)
 
+-- the slices of ten of the twenty lines, by name
+module _ (s : List ℕ) (a lower : Bool) where
+  pub tall-lower-alphanumeric : a ≡ true → lower ≡ true → _≡_ {A = List ℕ} (getD s 4 0 ∷ getD s 5 0 ∷ getD s 5 0 ∷ getD s 6 0 ∷ getD s 6 0 ∷ getD s 7 0 ∷ getD s 7 0 ∷ getD s 8 0 ∷ getD s 8 0 ∷ getD s 9 0 ∷ []) (byNumber s (twentyAt a lower))
+  unfolding joined sliceOfTwenty
+  tall-lower-alphanumeric p q = rw (p, q)
+
+  pub tall-upper-alphanumeric : a ≡ true → lower ≡ false → _≡_ {A = List ℕ} (getD s 0 0 ∷ getD s 0 0 ∷ getD s 0 0 ∷ getD s 1 0 ∷ getD s 1 0 ∷ getD s 2 0 ∷ getD s 2 0 ∷ getD s 3 0 ∷ getD s 3 0 ∷ getD s 4 0 ∷ []) (byNumber s (twentyAt a lower))
+  unfolding joined sliceOfTwenty
+  tall-upper-alphanumeric p q = rw (p, q)
+
+  pub tall-lower : a ≡ false → lower ≡ true → _≡_ {A = List ℕ} (getD s 5 0 ∷ getD s 5 0 ∷ getD s 6 0 ∷ getD s 6 0 ∷ getD s 7 0 ∷ getD s 7 0 ∷ getD s 8 0 ∷ getD s 8 0 ∷ getD s 9 0 ∷ getD s 9 0 ∷ []) (byNumber s (twentyAt a lower))
+  unfolding joined sliceOfTwenty
+  tall-lower p q = rw (p, q)
+
+  pub tall-upper : a ≡ false → lower ≡ false → _≡_ {A = List ℕ} (getD s 0 0 ∷ getD s 0 0 ∷ getD s 1 0 ∷ getD s 1 0 ∷ getD s 2 0 ∷ getD s 2 0 ∷ getD s 3 0 ∷ getD s 3 0 ∷ getD s 4 0 ∷ getD s 4 0 ∷ []) (byNumber s (twentyAt a lower))
+  unfolding joined sliceOfTwenty
+  tall-upper p q = rw (p, q)
+
+-- the slices that the lines of a bichrome cell show
+module _ (b : BichromeCell) (lower : Bool) (slices : List ℕ) where
+  pub shown-tall : (a : Bool) → a ≡ alphanumericOf (b .set) → b .tall ≡ true → byNumber slices (twentyAt a lower) ≡ byNumber slices (bichromeSlice b lower)
+  unfolding bichromeSlice
+  shown-tall a e t = table-same _ _ 10 (λ n l. rw (t, e))
+
+  pub shown-single : b .tall ≡ false → length slices ≡ 10 → slices ≡ byNumber slices (bichromeSlice b lower)
+  unfolding bichromeSlice
+  shown-single t h = table-of slices 10 0 h ∙ table-same _ _ 10 (λ n l. rw t)
+
 module _ (b : BichromeCell) (lower : Bool) where
-  pub numbers-tall : (a : Bool) → a ≡ alphanumericOf (b .set) → b .tall ≡ true → table (twentyAt a lower) 10 ≡ table (bichromeSlice b lower) 10
-  unfolding bichromeSlice
-  numbers-tall a e t = table-same _ _ 10 (λ n l. rw (t, e))
-
-  pub numbers-plain : b .tall ≡ false → table (λ n. n) 10 ≡ table (bichromeSlice b lower) 10
-  unfolding bichromeSlice
-  numbers-plain t = table-same _ _ 10 (λ n l. rw t)
-
   bichrome-small : (n : ℕ) → n < 10 → bichromeSlice b lower n < 10
   unfolding bichromeSlice
   bichrome-small n l = ⊎-elim (λ t. rw t (half-small _ lower n l)) (λ t. rw t l) (bool-cases (b .tall))
@@ -56,12 +81,13 @@ low-half : (t : Bool) (k n : ℕ) → n < 10 → t ≡ eqb (k % 2) 1 → twentyA
 low-half true k n l e = sym (twenty-other (10 + n) (omega arith)) ∙ omega (arith, eqb-true (k % 2) 1 (sym e))
 low-half false k n l e = sym (twenty-other n (omega arith)) ∙ omega (arith, eqb-false (k % 2) 1 (sym e))
 
-module _ (q : QuadrichromeCell) where
-  pub numbers-low : (k : ℕ) → q .resolution ≡ Low k → table (twentyAt false (eqb (k % 2) 1)) 10 ≡ table (quadrichromeSlice q) 10
-  numbers-low k e = table-same _ _ 10 (λ n l. rw e (low-half (eqb (k % 2) 1) k n l refl))
+-- those that the lines of a quadrichrome cell show
+module _ (q : QuadrichromeCell) (slices : List ℕ) where
+  pub shown-low : (k : ℕ) → q .resolution ≡ Low k → byNumber slices (twentyAt false (eqb (k % 2) 1)) ≡ byNumber slices (quadrichromeSlice q)
+  shown-low k e = table-same _ _ 10 (λ n l. rw e (ap (λ (i : ℕ). getD slices i 0) (low-half (eqb (k % 2) 1) k n l refl)))
 
-  pub numbers-high : q .resolution ≡ High → table (λ n. n) 10 ≡ table (quadrichromeSlice q) 10
-  numbers-high e = table-same _ _ 10 (λ n l. rw e)
+  pub shown-high : q .resolution ≡ High → length slices ≡ 10 → slices ≡ byNumber slices (quadrichromeSlice q)
+  shown-high e h = table-of slices 10 0 h ∙ table-same _ _ 10 (λ n l. rw e)
 
 resolved-small : (r : Resolution) (n : ℕ) → n < 10 → resolvedSlice r n < 10
 resolved-small High n l = l
@@ -71,31 +97,43 @@ pub shown-small : (cell : Cell) (lower : Bool) (n : ℕ) → n < 10 → sliceSho
 shown-small (Bichrome b) lower n l = bichrome-small b lower n l
 shown-small (Quadrichrome q) lower n l = resolved-small (q .resolution) n l
 
--- a slice that is shown whole
-pub taken-whole : (right : Bool) (s : ℕ) → s < 256 → s ≡ numberOf (takenBit false right s) 8
-taken-whole right s l = byte-number s l
+-- a slice from memory or ROM whose elements are bytes is a byte
+module _ (m rom : List ℕ) (m-small : (i : ℕ) → getD m i 0 < 256) (rom-small : (i : ℕ) → getD rom i 0 < 256) where
+  kept-small : (c z n : ℕ) → keptSlice m c z n < 256
+  unfolding keptSlice
+  kept-small c z n = go (slicePlaceOf c n z)
+    where
+      go : (p : SlicePlace) → byteOr m p < 256
+      go (At p) = m-small p
+      go NoByte = omega arith
 
--- the byte of line n, from a cell's ten slices and the ten numbers of those that its lines show
-abbrev pub tenFrom : List ℕ → List ℕ → Bool → Bool → ℕ → ℕ
-tenFrom slices shown wide right n = numberOf (takenBit wide right (getD slices (getD shown n 0) 0)) 8
+  from-small : (c : ℕ) (source : Source) (n : ℕ) → sliceFrom m rom c source n < 256
+  unfolding romSlice
+  from-small c (Rom set) n = rom-small (1280 * set + 10 * (c % 128) + n)
+  from-small c (Block z) n = kept-small c z n
 
--- the index that the code reads, and the bytes that it makes
+  pub slice-small : (dor : ℕ) (cell : Cell) (n : ℕ) → slicesOf m rom dor cell n < 256
+  unfolding slicesOf
+  slice-small dor cell n = from-small (characterOf cell) (cellSource dor cell) n
+
+-- the ten bytes of a cell, from its slices and those that its lines show
 module _ (m rom : List ℕ) (dor : ℕ) (cell : Cell) (lower right : Bool) (shown slices : List ℕ)
-    (is-shown : shown ≡ table (sliceShown cell lower) 10) (is-slices : slices ≡ table (slicesOf m rom dor cell) 10) where
-  number-at : (n : ℕ) → n < 10 → getD shown n 0 ≡ sliceShown cell lower n
-  number-at n l = ap (λ (s : List ℕ). getD s n 0) is-shown ∙ table-at (sliceShown cell lower) 10 n 0 l
-
-  pub number-fits : (n i : ℕ) → n < 10 → i ≡ getD shown n 0 → i < 10
-  number-fits n i l e = rw (e ∙ number-at n l) (shown-small cell lower n l)
-
-  pub ten-made :
-      (wide : Bool) → wide ≡ wideOf cell → table (tenFrom slices shown wide right) 10 ≡ table (takenAt m rom dor cell lower right) 10
-  ten-made wide ew =
-      table-same _ _ 10
-      (λ n l.
-      let at : getD slices (getD shown n 0) 0 ≡ slicesOf m rom dor cell (sliceShown cell lower n) =
-      ap (λ (j : ℕ). getD slices j 0) (number-at n l)
+    (is-shown : shown ≡ byNumber slices (sliceShown cell lower)) (is-slices : slices ≡ table (slicesOf m rom dor cell) 10) where
+  shown-at : (n : ℕ) → n < 10 → getD shown n 0 ≡ slicesOf m rom dor cell (sliceShown cell lower n)
+  shown-at n l =
+      ap (λ (s : List ℕ). getD s n 0) is-shown
+      ∙ table-at (λ k. getD slices (sliceShown cell lower k) 0) 10 n 0 l
       ∙ ap (λ (s : List ℕ). getD s (sliceShown cell lower n) 0) is-slices
-      ∙ table-at (slicesOf m rom dor cell) 10 (sliceShown cell lower n) 0 (shown-small cell lower n l) in
-      ap (λ (w : Bool). numberOf (takenBit w right (getD slices (getD shown n 0) 0)) 8) ew
-      ∙ ap (λ (s : ℕ). numberOf (takenBit (wideOf cell) right s) 8) at)
+      ∙ table-at (slicesOf m rom dor cell) 10 (sliceShown cell lower n) 0 (shown-small cell lower n l)
+
+  pub ten-wide : wideOf cell ≡ true → table (doubledOf shown right) 10 ≡ tenOf m rom dor cell lower right
+  unfolding tenOf
+  ten-wide w =
+      table-same _ _ 10 (λ n l. rw w (ap (λ (s : ℕ). numberOf (takenBit true right s) 8) (shown-at n l)))
+
+  pub ten-whole :
+      ((i : ℕ) → getD m i 0 < 256) → ((i : ℕ) → getD rom i 0 < 256) → length shown ≡ 10 → wideOf cell ≡ false → shown ≡ tenOf m rom dor cell lower right
+  unfolding tenOf
+  ten-whole m-small rom-small h w =
+      table-of shown 10 0 h
+      ∙ table-same _ _ 10 (λ n l. rw w (shown-at n l ∙ byte-number _ (slice-small m rom m-small rom-small dor cell (sliceShown cell lower n))))

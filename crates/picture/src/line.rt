@@ -5,8 +5,7 @@ ghost use mathlib.Core.List.{[], _∷_};
 ghost use Prim.Native.Nat.{_<_, _%_};
 ghost use lib.ListN.{getD};
 ghost use Rattle.basics.specs.Parts.{table, joined};
-ghost use Rattle.picture.specs.Lines.{underlineShown, linedByte, byteOn, fourBy, fourOf, lineOn};
-use crate::pairs::Pairs;
+ghost use Rattle.picture.specs.Lines.{underlineShown, linedByte, linedOn, plainOn, bytesOn, fourBy, fourOf, lineOn};
 use cell::decode::decode;
 use cell::height::slice_shown;
 use cell::kind::Cell;
@@ -27,34 +26,49 @@ pub fn shows_underline(cell: Cell, lower: bool) -> bool
     }
 }
 
-// The byte of a line, underlined where it is: on the last line alone, since no other shows slice 9 of an alphanumeric.
-pub fn lined(code: [u8; 3], lower: bool, n: usize, byte: u8) -> u8
-    ensures { λ r. ⌜ r ≡ linedByte code lower n byte ⌝ }
+// A byte of the last line, underlined where it is.
+pub fn lined(code: [u8; 3], lower: bool, byte: u8) -> u8
+    ensures { λ r. ⌜ r ≡ linedByte code lower byte ⌝ }
 {
-    if n == 9 {
-        if shows_underline(decode(code), lower) {
-            return 255;
-        }
+    if shows_underline(decode(code), lower) {
+        return 255;
     }
     byte
 }
 
-// The effective byte of each cell of line n.
-pub fn line_bytes(
-    cells: [[u8; 3]; 40],
-    lowers: [bool; 40],
-    tens: [[u8; 10]; 40],
-    n: usize,
-) -> [u8; 40]
-    requires { ⌜ n < 10 ⌝ }
-    ensures { λ r. ⌜ r ≡ table (byteOn cells lowers tens n) 40 ⌝ }
+// The bytes of the last line, underlined where they are.
+fn underlined(cells: [[u8; 3]; 40], lowers: [bool; 40], plain: [u8; 40]) -> [u8; 40]
+    ensures { λ r. ⌜ r ≡ table (linedOn cells lowers plain) 40 ⌝ }
 {
     let mut bytes = [0u8; 40];
     for x in 0..40 {
-        let ten = tens[x];
-        bytes[x] = lined(cells[x], lowers[x], n, ten[n]);
+        bytes[x] = lined(cells[x], lowers[x], plain[x]);
     }
     bytes
+}
+
+// The byte of each cell of line n, not underlined yet.
+fn plain_bytes(tens: &[u8; 400], n: usize) -> [u8; 40]
+    requires { ⌜ n < 10 ⌝ }
+    ensures { λ r. ⌜ r ≡ table (plainOn (now (tens .entry)) n) 40 ⌝ }
+{
+    let mut bytes = [0u8; 40];
+    for x in 0..40 {
+        bytes[x] = tens[40 * n + x];
+    }
+    bytes
+}
+
+// The effective byte of each cell of line n. An underline is on the last line alone, since no other shows slice 9 of an alphanumeric.
+fn line_bytes(cells: [[u8; 3]; 40], lowers: [bool; 40], tens: &[u8; 400], n: usize) -> [u8; 40]
+    requires { ⌜ n < 10 ⌝ }
+    ensures { λ r. ⌜ r ≡ bytesOn cells lowers (now (tens .entry)) n ⌝ }
+{
+    let plain = plain_bytes(tens, n);
+    if n == 9 {
+        return underlined(cells, lowers, plain);
+    }
+    plain
 }
 
 // One of the four pairs, by the two lowest bits of a number. Choices without a jump, so that the loop over the cells becomes vector
@@ -79,18 +93,25 @@ fn four(by: u8, none: u8, left: u8, right: u8, both: u8) -> [u8; 4]
     ]
 }
 
-// The packed line of forty effective bytes.
+// The packed line of forty effective bytes. Thirty-two cells are a whole number of vectors, and so the rest is a loop of its own.
 fn packed_line(
     bytes: [u8; 40],
-    none: [u8; 40],
-    left: [u8; 40],
-    right: [u8; 40],
-    both: [u8; 40],
+    none: &[u8; 40],
+    left: &[u8; 40],
+    right: &[u8; 40],
+    both: &[u8; 40],
 ) -> [u8; 160]
-    ensures { λ r. ⌜ r ≡ joined (fourOf bytes none left right both) 40 ⌝ }
+    ensures { λ r. ⌜ r ≡ joined (fourOf bytes (now (none .entry)) (now (left .entry)) (now (right .entry)) (now (both .entry))) 40 ⌝ }
 {
     let mut line = [0u8; 160];
-    for x in 0..40 {
+    for x in 0..32 {
+        let four = four(bytes[x], none[x], left[x], right[x], both[x]);
+        line[4 * x] = four[0];
+        line[4 * x + 1] = four[1];
+        line[4 * x + 2] = four[2];
+        line[4 * x + 3] = four[3];
+    }
+    for x in 32..40 {
         let four = four(bytes[x], none[x], left[x], right[x], both[x]);
         line[4 * x] = four[0];
         line[4 * x + 1] = four[1];
@@ -100,20 +121,19 @@ fn packed_line(
     line
 }
 
-// Line n of a row.
+// The line drawer: line n of a row, from its row buffer and what was worked out once for its ten lines.
 pub fn line(
     cells: [[u8; 3]; 40],
     lowers: [bool; 40],
-    tens: [[u8; 10]; 40],
-    pairs: Pairs,
+    tens: &[u8; 400],
+    none: &[u8; 40],
+    left: &[u8; 40],
+    right: &[u8; 40],
+    both: &[u8; 40],
     n: usize,
 ) -> [u8; 160]
     requires { ⌜ n < 10 ⌝ }
-    ensures { λ r. ⌜ r ≡ lineOn cells lowers tens pairs n ⌝ }
+    ensures { λ r. ⌜ r ≡ lineOn cells lowers (now (tens .entry)) (now (none .entry)) (now (left .entry)) (now (right .entry)) (now (both .entry)) n ⌝ }
 {
-    let none = pairs.none;
-    let left = pairs.left;
-    let right = pairs.right;
-    let both = pairs.both;
     packed_line(line_bytes(cells, lowers, tens, n), none, left, right, both)
 }

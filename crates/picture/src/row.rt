@@ -28,14 +28,18 @@ fn draw_lines(
     part: &mut [u8],
     cells: [[u8; 3]; 40],
     lowers: [bool; 40],
-    tens: [[u8; 10]; 40],
+    tens: &[u8; 400],
     pairs: Pairs,
 )
     requires { ⌜ length (now part) ≡ 1600 ⌝ }
-    ensures { λ _. ⌜ now (part .exit) ≡ joined (lineOn cells lowers tens pairs) 10 ⌝ }
+    ensures { λ _. ⌜ now (part .exit) ≡ joined (lineOn cells lowers (now (tens .entry)) (pairs .none) (pairs .left) (pairs .right) (pairs .both)) 10 ⌝ }
 {
+    let none = pairs.none;
+    let left = pairs.left;
+    let right = pairs.right;
+    let both = pairs.both;
     for n in 0..10 {
-        let drawn = line(cells, lowers, tens, pairs, n);
+        let drawn = line(cells, lowers, tens, &none, &left, &right, &both, n);
         copy_line(&mut part[160 * n..160 * n + 160], drawn);
     }
 }
@@ -59,6 +63,6 @@ pub fn draw_row(
     let rights = right_halves(cells);
     let tens = tens_of(memory, rom, settings.dor, cells, lowers, rights);
     let pairs = pairs_of(cells, settings.pat, settings.phase);
-    draw_lines(part, cells, lowers, tens, pairs);
+    draw_lines(part, cells, lowers, &tens, pairs);
     lowers
 }

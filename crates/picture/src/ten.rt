@@ -1,12 +1,10 @@
 // The ten bytes of a cell, one for each of its lines: the slice that the line shows, and of it the half that is shown.
 ghost use mathlib.Core.Path.{_≡_};
+ghost use Prim.Native.Nat.{_<_};
 ghost use lib.ListN.{length};
-ghost use Rattle.basics.specs.Bits.{numberOf};
-ghost use Rattle.basics.specs.Choice.{pick};
 ghost use Rattle.basics.specs.Parts.{table};
-ghost use Rattle.cell.specs.Pixels.{takenBit};
 ghost use Rattle.cell.specs.Slices.{sliceShown};
-ghost use Rattle.picture.specs.Lines.{twentyAt, wideOf, tenOf, tensOf};
+ghost use Rattle.picture.specs.Lines.{twentyAt, wideOf, byNumber, doubledOf, tenOf, putAt, tensOf};
 use cell::decode::decode;
 use cell::decode::is_alphanumeric;
 use cell::kind::Cell;
@@ -14,49 +12,39 @@ use cell::kind::Resolution;
 use cell::width::doubled;
 use page::source::slices_of;
 
-const PLAIN: [u8; 10] = [0, 1, 2, 3, 4, 5, 6, 7, 8, 9];
-
-const UPPER: [u8; 10] = [0, 0, 1, 1, 2, 2, 3, 3, 4, 4];
-
-const LOWER: [u8; 10] = [5, 5, 6, 6, 7, 7, 8, 8, 9, 9];
-
-const ALPHANUMERIC_UPPER: [u8; 10] = [0, 0, 0, 1, 1, 2, 2, 3, 3, 4];
-
-const ALPHANUMERIC_LOWER: [u8; 10] = [4, 5, 5, 6, 6, 7, 7, 8, 8, 9];
-
-// The slices of ten of the twenty lines of a double height cell.
-pub fn tall_numbers(alphanumeric: bool, lower: bool) -> [u8; 10]
-    ensures { λ r. ⌜ r ≡ table (twentyAt alphanumeric lower) 10 ⌝ }
+// The slices that ten of the twenty lines of a double height cell show.
+pub fn tall_slices(alphanumeric: bool, lower: bool, s: [u8; 10]) -> [u8; 10]
+    ensures { λ r. ⌜ r ≡ byNumber s (twentyAt alphanumeric lower) ⌝ }
 {
     if alphanumeric {
         if lower {
-            return ALPHANUMERIC_LOWER;
+            return [s[4], s[5], s[5], s[6], s[6], s[7], s[7], s[8], s[8], s[9]];
         }
-        return ALPHANUMERIC_UPPER;
+        return [s[0], s[0], s[0], s[1], s[1], s[2], s[2], s[3], s[3], s[4]];
     }
     if lower {
-        return LOWER;
+        return [s[5], s[5], s[6], s[6], s[7], s[7], s[8], s[8], s[9], s[9]];
     }
-    UPPER
+    [s[0], s[0], s[1], s[1], s[2], s[2], s[3], s[3], s[4], s[4]]
 }
 
 // The slice that each line of a cell shows.
-pub fn numbers(cell: Cell, lower: bool) -> [u8; 10]
-    ensures { λ r. ⌜ r ≡ table (sliceShown cell lower) 10 ⌝ }
+pub fn shown_slices(cell: Cell, lower: bool, slices: [u8; 10]) -> [u8; 10]
+    ensures { λ r. ⌜ r ≡ byNumber slices (sliceShown cell lower) ⌝ }
 {
     match cell {
         Cell::Bichrome(b) => {
             if b.tall {
                 let set = b.set;
-                return tall_numbers(is_alphanumeric(set), lower);
+                return tall_slices(is_alphanumeric(set), lower, slices);
             }
-            PLAIN
+            slices
         }
         Cell::Quadrichrome(q) => {
             let resolution = q.resolution;
             match resolution {
-                Resolution::High => PLAIN,
-                Resolution::Low(k) => tall_numbers(false, k % 2 == 1),
+                Resolution::High => slices,
+                Resolution::Low(k) => tall_slices(false, k % 2 == 1, slices),
             }
         }
     }
@@ -71,37 +59,39 @@ pub fn is_wide(cell: Cell) -> bool
     }
 }
 
-// A slice byte, or the half of it that is shown.
-pub fn taken(wide: bool, right: bool, slice: u8) -> u8
-    ensures { λ r. ⌜ r ≡ numberOf (takenBit wide right slice) 8 ⌝ }
+// Of each of ten slices the half that is shown.
+pub fn doubled_slices(right: bool, slices: [u8; 10]) -> [u8; 10]
+    ensures { λ r. ⌜ r ≡ table (doubledOf slices right) 10 ⌝ }
 {
-    if wide {
-        return doubled(right, slice);
+    let mut ten = [0u8; 10];
+    for n in 0..10 {
+        ten[n] = doubled(right, slices[n]);
     }
-    slice
-}
-
-fn index(number: u8) -> usize
-    ensures { λ r. ⌜ r ≡ number ⌝ }
-{
-    number as usize
+    ten
 }
 
 pub fn ten_of(memory: &[u8], rom: &[u8], dor: u8, cell: Cell, lower: bool, right: bool) -> [u8; 10]
     requires { ⌜ (length (now memory) ≡ 16384) × (length (now rom) ≡ 6400) ⌝ }
     ensures { λ r. ⌜ r ≡ tenOf (now (memory .entry)) (now (rom .entry)) dor cell lower right ⌝ }
 {
-    let slices = slices_of(memory, rom, dor, cell);
-    let shown = numbers(cell, lower);
-    let wide = is_wide(cell);
-    let mut ten = [0u8; 10];
-    for n in 0..10 {
-        ten[n] = taken(wide, right, slices[index(shown[n])]);
+    let shown = shown_slices(cell, lower, slices_of(memory, rom, dor, cell));
+    if is_wide(cell) {
+        return doubled_slices(right, shown);
     }
-    ten
+    shown
 }
 
-// The ten bytes of each cell of a row.
+// The ten bytes of cell x put in their places, the bytes of a line side by side.
+fn put_ten(tens: &mut [u8], x: usize, ten: [u8; 10])
+    requires { ⌜ (length (now tens) ≡ 400) × (x < 40) ⌝ }
+    ensures { λ _. ⌜ now (tens .exit) ≡ table (putAt (now (tens .entry)) x ten) 400 ⌝ }
+{
+    for n in 0..10 {
+        tens[40 * n + x] = ten[n];
+    }
+}
+
+// The ten bytes of each cell of a row, line after line.
 pub fn tens_of(
     memory: &[u8],
     rom: &[u8],
@@ -109,13 +99,14 @@ pub fn tens_of(
     cells: [[u8; 3]; 40],
     lowers: [bool; 40],
     rights: [bool; 40],
-) -> [[u8; 10]; 40]
+) -> [u8; 400]
     requires { ⌜ (length (now memory) ≡ 16384) × (length (now rom) ≡ 6400) ⌝ }
     ensures { λ r. ⌜ r ≡ tensOf (now (memory .entry)) (now (rom .entry)) dor cells lowers rights ⌝ }
 {
-    let mut tens = [[0u8; 10]; 40];
+    let mut tens = [0u8; 400];
     for x in 0..40 {
-        tens[x] = ten_of(memory, rom, dor, decode(cells[x]), lowers[x], rights[x]);
+        let ten = ten_of(memory, rom, dor, decode(cells[x]), lowers[x], rights[x]);
+        put_ten(&mut tens, x, ten);
     }
     tens
 }

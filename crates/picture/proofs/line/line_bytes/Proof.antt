@@ -1,77 +1,22 @@
-use Rattle.picture.specs.Lines.{byteOn}
-use Rattle.basics.proofs.Filled.{table-set, table-end}
-use Rattle.basics.specs.Parts.{table, joined}
-use lib.ListN.{length, take, length-set}
-use native.Mathlib.Omega.{arith}
-use mathlib.Core.Path.{_≡_, refl}
-use Prim.Native.Nat.{_≤_, _-_}
+use Rattle.picture.specs.Lines.{bytesOn}
+use borrow.Author.Tests.{eq-eqb, ne-eqb}
 use borrow.Author.Needs.{needs}
 use Rattle.picture.proofs.line.line_bytes.Statement.{statement}
 use Rattle.picture.proofs.line.line_bytes.Tie as tie
 
-abbrev Inv-loop : tie.InvT-loop
-Inv-loop n cells lowers tens bytes₀ x₀ bytes x = (x ≤ 40) × (length bytes ≡ 40) × (take x bytes ≡ table (byteOn cells lowers tens n) x)
+plain-bytes-requires : tie.Need-plain-bytes-requires
+plain-bytes-requires c κs = search needs
 
-abbrev μ-loop : tie.MeasureT-loop
-μ-loop n cells lowers tens bytes₀ x₀ bytes x = 40 - x
+underlined-requires : tie.Need-underlined-requires
+underlined-requires c κs = search needs
 
-loop-holds : tie.Need-loop-holds Inv-loop μ-loop
-unfolding joined
-loop-holds c = (omega arith, refl, refl)
+returns : tie.Need-returns
+unfolding bytesOn
+returns c = rw (eq-eqb _ _ (c .before .if1 .taken), c .underlined .ensures, c .before .before .plain-bytes .ensures)
 
-mul-ten : tie.Need-mul-ten Inv-loop μ-loop
-mul-ten c = search needs
-
-array-copy-out-ten : tie.Need-array-copy-out-ten Inv-loop μ-loop
-array-copy-out-ten c = search needs
-
-mul-lined : tie.Need-mul-lined Inv-loop μ-loop
-mul-lined c = search needs
-
-array-copy-out-lined : tie.Need-array-copy-out-lined Inv-loop μ-loop
-array-copy-out-lined c = search needs
-
-array-read-lined : tie.Need-array-read-lined Inv-loop μ-loop
-array-read-lined c = search needs
-
-array-read-lined-2 : tie.Need-array-read-lined-2 Inv-loop μ-loop
-array-read-lined-2 c = search needs
-
-lined-requires : tie.Need-lined-requires Inv-loop μ-loop
-lined-requires c κs = search needs
-
-array-write-bytes : tie.Need-array-write-bytes Inv-loop μ-loop
-array-write-bytes c = search needs
-
-add-x : tie.Need-add-x Inv-loop μ-loop
-add-x c = search needs
-
-loop-less : tie.Need-loop-less Inv-loop μ-loop
-loop-less c = omega arith
-
-loop-again : tie.Need-loop-again Inv-loop μ-loop
-loop-again c = let l = c .before .before .before .before .loop in
-    (omega arith, simp length-set (l .inv .1), table-set _ _ _ _ (l .inv .2) (c .lined .ensures) (omega arith))
-
-returns : tie.Need-returns Inv-loop μ-loop
-returns c = let l = c .before .loop in table-end _ _ 40 _ (l .inv .2) (l .inv .0) (omega arith) (l .inv .1)
+returns-2 : tie.Need-returns-2
+unfolding bytesOn
+returns-2 c = rw (ne-eqb _ _ (c .if1 .left), c .before .plain-bytes .ensures)
 
 pub line-bytes-spec : {M : Type 1} → statement M
-line-bytes-spec =
-    tie.close
-    (tie.spec
-    Inv-loop
-    μ-loop
-    loop-holds
-    mul-ten
-    array-copy-out-ten
-    mul-lined
-    array-copy-out-lined
-    array-read-lined
-    array-read-lined-2
-    lined-requires
-    array-write-bytes
-    add-x
-    loop-less
-    loop-again
-    returns)
+line-bytes-spec = tie.close (tie.spec plain-bytes-requires underlined-requires returns returns-2)

@@ -1,5 +1,4 @@
 use Rattle.picture.specs.Lines.{linedByte}
-use borrow.Author.Tests.{eq-eqb, ne-eqb}
 use mathlib.Core.Path.{sym, _∙_}
 use borrow.Author.Needs.{needs}
 use Rattle.picture.proofs.line.lined.Statement.{statement}
@@ -13,20 +12,11 @@ shows-underline-requires c κs = search needs
 
 returns : tie.Need-returns
 unfolding linedByte
-returns c = let u = c .before in
-    let t = u .before .before in
-    rw (eq-eqb _ _ (t .if1 .taken), ← u .before .decode .ensures, sym (u .shows-underline .ensures) ∙ c .if2 .taken)
+returns c = let u = c .before in rw (← u .before .decode .ensures, sym (u .shows-underline .ensures) ∙ c .if1 .taken)
 
 returns-2 : tie.Need-returns-2
 unfolding linedByte
-returns-2 c = let u = c .before in
-    let t = u .before .before in
-    rw (eq-eqb _ _ (t .if1 .taken), ← u .before .decode .ensures, sym (u .shows-underline .ensures) ∙ c .if2 .left)
-
-returns-3 : tie.Need-returns-3
-unfolding linedByte
-returns-3 c = rw (ne-eqb _ _ (c .if1 .left))
+returns-2 c = let u = c .before in rw (← u .before .decode .ensures, sym (u .shows-underline .ensures) ∙ c .if1 .left)
 
 pub lined-spec : {M : Type 1} → statement M
-lined-spec =
-    tie.close (tie.spec decode-requires shows-underline-requires returns returns-2 returns-3)
+lined-spec = tie.close (tie.spec decode-requires shows-underline-requires returns returns-2)

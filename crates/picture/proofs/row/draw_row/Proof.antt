@@ -28,7 +28,7 @@ same-length c = search needs
 
 returns : tie.Need-returns
 returns c = let d = c .before .before in
-    let p = d .before .before in
+    let p = d .before .before .before in
     let t = p .before in
     let r = t .before in
     let h = r .before in

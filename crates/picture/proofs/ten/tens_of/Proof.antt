@@ -1,29 +1,21 @@
-use Rattle.picture.specs.Lines.{tenOf, tensOf}
-use Rattle.page.specs.Inputs.{decoded}
-use Rattle.basics.proofs.Filled.{table-set, table-end}
-use Rattle.basics.specs.Parts.{table, joined}
-use lib.ListN.{length, take, getD, length-set}
+use Rattle.picture.proofs.Columns.{CellsTo, cells-one, cells-end}
+use Rattle.picture.specs.Lines.{tenAt, tensOf}
 use native.Mathlib.Omega.{arith}
-use mathlib.Core.List.{[]}
-use mathlib.Core.Bool.{false}
-use mathlib.Core.Path.{_≡_, refl}
+use native.Mathlib.Nat.{not-suc-le-zero}
+use mathlib.Core.Path.{refl}
 use Prim.Native.Nat.{_≤_, _-_}
 use borrow.Author.Needs.{needs}
 use Rattle.picture.proofs.ten.tens_of.Statement.{statement}
 use Rattle.picture.proofs.ten.tens_of.Tie as tie
 
 abbrev Inv-loop : tie.InvT-loop
-Inv-loop memory rom dor cells lowers rights tens₀ x₀ tens x =
-    (x ≤ 40)
-    × (length tens ≡ 40)
-    × (take x tens ≡ table (λ j. tenOf memory rom dor (decoded (getD cells j [])) (getD lowers j false) (getD rights j false)) x)
+Inv-loop memory rom dor cells lowers rights tens₀ x₀ tens x = (x ≤ 40) × CellsTo (tenAt memory rom dor cells lowers rights) tens x
 
 abbrev μ-loop : tie.MeasureT-loop
 μ-loop memory rom dor cells lowers rights tens₀ x₀ tens x = 40 - x
 
 loop-holds : tie.Need-loop-holds Inv-loop μ-loop
-unfolding joined
-loop-holds c = (omega arith, refl, refl)
+loop-holds c = (omega arith, (refl, λ i l b. absurd (not-suc-le-zero b)))
 
 mul-decode : tie.Need-mul-decode Inv-loop μ-loop
 mul-decode c = search needs
@@ -43,11 +35,11 @@ array-read-ten-of-2 c = search needs
 ten-of-requires : tie.Need-ten-of-requires Inv-loop μ-loop
 ten-of-requires c κs = search needs
 
-mul-tens : tie.Need-mul-tens Inv-loop μ-loop
-mul-tens c = search needs
+slice-aggregate-put-ten : tie.Need-slice-aggregate-put-ten Inv-loop μ-loop
+slice-aggregate-put-ten c = search needs
 
-array-set-from-tens : tie.Need-array-set-from-tens Inv-loop μ-loop
-array-set-from-tens c = search needs
+put-ten-requires : tie.Need-put-ten-requires Inv-loop μ-loop
+put-ten-requires c κs = search needs
 
 add-x : tie.Need-add-x Inv-loop μ-loop
 add-x c = search needs
@@ -56,15 +48,20 @@ loop-less : tie.Need-loop-less Inv-loop μ-loop
 loop-less c = omega arith
 
 loop-again : tie.Need-loop-again Inv-loop μ-loop
-loop-again c = let l = c .before .before .before .before .loop in (
-  omega arith,
-  simp length-set (l .inv .1),
-  table-set _ _ _ _ (l .inv .2) (rw (c .ten-of .ensures, c .before .decode .ensures)) (omega arith),
-)
+loop-again c = let p = c .before in
+    let t = p .before .before in
+    let l = t .before .before .before .before .loop in
+    let a = t .before .before .before .before .before .before .before .args in (
+      omega arith,
+      cells-one (tenAt (a .memory .now) (a .rom .now) (a .dor) (a .t4) (a .t5) (a .t6)) (l .tens) (p .put-ten .last .0) (l .x) (t .ten-of .result) (l .inv .1)
+          (rw (t .ten-of .ensures, t .before .decode .ensures)) (p .put-ten .ensures),
+    )
 
 returns : tie.Need-returns Inv-loop μ-loop
 unfolding tensOf
-returns c = let l = c .before .loop in table-end _ _ 40 _ (l .inv .2) (l .inv .0) (omega arith) (l .inv .1)
+returns c = let l = c .before .loop in
+    let a = c .before .before .before .before .args in
+    cells-end (tenAt (a .memory .now) (a .rom .now) (a .dor) (a .t4) (a .t5) (a .t6)) (l .tens) (l .x) (l .inv .1) (omega arith)
 
 pub tens-of-spec : {M : Type 1} → statement M
 tens-of-spec =
@@ -79,8 +76,8 @@ tens-of-spec =
     array-read-ten-of
     array-read-ten-of-2
     ten-of-requires
-    mul-tens
-    array-set-from-tens
+    slice-aggregate-put-ten
+    put-ten-requires
     add-x
     loop-less
     loop-again
