@@ -1,0 +1,181 @@
+/*
+ * The C interface of Binturamis, which takes the place of the EF9345 display processor.
+ *
+ * A host lends four things and keeps them between calls: a processor (64 bytes), the private memory, the character ROM and the picture.
+ * It writes and reads the eight registers, turns the phase for cells that flash, and asks for the marked rows to be drawn again. The kept
+ * picture is right only if nothing else writes the memory and the picture, if the ROM stays as it is, and if each call is given the
+ * processor that the call before it left.
+ *
+ * Answers. write, read, turn and draw answer 256 * number + value. Number 0 is accepted; any other is a refusal, by its number below.
+ * The value of an accepted read is the register's, that of an accepted draw the rows redrawn, and every other value of an accepted call
+ * is 0. binturamis_number and binturamis_value take an answer apart.
+ *
+ * Buffers. No pointer may be NULL. No two of the things lent to one call may overlap, except the memory and the ROM of a draw, which are
+ * only read; nor may anybody else write them meanwhile. A length is the number of bytes that may be touched from its pointer on. Any length
+ * may be given: one that is not right is refused by number, and then no byte of any buffer is touched. So a buffer of length 0 is never
+ * looked into, but its pointer must still not be NULL: any other address will do. No buffer need be aligned.
+ *
+ * Threads. There is nothing global: what a call does and answers depends on what it is lent and on nothing else. A processor and its
+ * buffers belong to one caller at a time; callers with buffers of their own may call at the same time.
+ */
+#ifndef BINTURAMIS_H
+#define BINTURAMIS_H
+
+#include <stddef.h>
+#include <stdint.h>
+
+/* The bytes of each thing that is lent. */
+#define BINTURAMIS_PROCESSOR_BYTES 64u
+#define BINTURAMIS_MEMORY_BYTES 16384u
+#define BINTURAMIS_ROM_BYTES 6400u
+#define BINTURAMIS_PICTURE_BYTES 40000u
+#define BINTURAMIS_STATE_BYTES 48u
+
+/*
+ * The picture: 25 rows of ten lines, row r in the 1,600 bytes from 1,600 * r. A line is 160 bytes, two pixels a byte, the left pixel in
+ * the low four bits: 320 by 250 pixels.
+ */
+#define BINTURAMIS_ROWS 25u
+#define BINTURAMIS_COLUMNS 40u
+#define BINTURAMIS_ROW_BYTES 1600u
+#define BINTURAMIS_ROW_LINES 10u
+#define BINTURAMIS_LINE_BYTES 160u
+
+/*
+ * The ROM: five sets of 128 characters of ten slices, in the order G0, G10, G11, G20, G21. The slice s of character c of a set is at
+ * 1280 * set + 10 * c + s; its bit 0 is the leftmost pixel.
+ */
+#define BINTURAMIS_SET_BYTES 1280u
+#define BINTURAMIS_SLICES 10u
+
+/*
+ * Refusals. An access (write, read) is checked in the order 1, 2, 3, 4; a phase change in the order 1, 9; a draw in the order 1, 5, 6, 7,
+ * 8. The first that applies is answered. After 3 and 4 the register access itself has happened, and nothing else: a refused read still
+ * answers the value read. After every other refusal nothing at all has changed, and the value is 0.
+ */
+#define BINTURAMIS_ACCEPTED 0u
+#define BINTURAMIS_WRONG_MEMORY 1u  /* private memory is not 16,384 bytes */
+#define BINTURAMIS_WRONG_ADDRESS 2u /* the address's high four bits are not 2 */
+#define BINTURAMIS_NOT_LISTED 3u    /* a command to execute is not one of those below */
+#define BINTURAMIS_BAD_POINTER 4u   /* its pointer has X above 39 or Y from 1 to 7 */
+#define BINTURAMIS_WRONG_ROM 5u     /* ROM is not 6,400 bytes */
+#define BINTURAMIS_WRONG_PICTURE 6u /* picture is not 40,000 bytes */
+#define BINTURAMIS_NOT_BUILT 7u     /* TGS bits 7, 6 or 5, or PAT bit 7, not zero */
+#define BINTURAMIS_LOW_ORIGIN 8u    /* origin YOR below 8 */
+#define BINTURAMIS_WRONG_PHASE 9u   /* phase is not 0 or 1 */
+
+/* The addresses of the registers. BINTURAMIS_EXECUTE added to one asks for the command in R0 to run after the access. */
+#define BINTURAMIS_R0 0x20u /* written: the command; read: the status */
+#define BINTURAMIS_R1 0x21u
+#define BINTURAMIS_R2 0x22u
+#define BINTURAMIS_R3 0x23u
+#define BINTURAMIS_R4 0x24u
+#define BINTURAMIS_R5 0x25u
+#define BINTURAMIS_R6 0x26u
+#define BINTURAMIS_R7 0x27u
+#define BINTURAMIS_EXECUTE 0x08u
+
+/* The bits of the status. Commands finish at once, so busy is always 0. */
+#define BINTURAMIS_STATUS_BUSY 0x80u
+#define BINTURAMIS_STATUS_LX 0x40u  /* either of the two below */
+#define BINTURAMIS_STATUS_LXM 0x20u /* the main pointer's X went from 39 to 0 */
+#define BINTURAMIS_STATUS_LXA 0x10u /* the auxiliary pointer's X did */
+
+/* The commands. A byte that is no sum of these as its line says gets refusal 3. */
+#define BINTURAMIS_KRF 0x00u /* R1, R2, R3 (C, B, A) with the cell at the main pointer; INCREMENT, READ may be added */
+#define BINTURAMIS_OCT 0x30u /* R1 with one byte; INCREMENT, AUXILIARY, READ may be added */
+#define BINTURAMIS_IND 0x80u /* R1 with an indirect register, whose number is added; READ may be added */
+#define BINTURAMIS_NOP 0x91u /* nothing; 0x90 is the same */
+#define BINTURAMIS_INCREMENT 0x01u
+#define BINTURAMIS_AUXILIARY 0x04u
+#define BINTURAMIS_READ 0x08u
+
+/* The numbers of the indirect registers, for IND. */
+#define BINTURAMIS_TGS 1u
+#define BINTURAMIS_MAT 2u
+#define BINTURAMIS_PAT 3u
+#define BINTURAMIS_DOR 4u
+#define BINTURAMIS_ROR 7u
+
+/* The colours of a pixel. */
+#define BINTURAMIS_BLACK 0u
+#define BINTURAMIS_RED 1u
+#define BINTURAMIS_GREEN 2u
+#define BINTURAMIS_YELLOW 3u
+#define BINTURAMIS_BLUE 4u
+#define BINTURAMIS_MAGENTA 5u
+#define BINTURAMIS_CYAN 6u
+#define BINTURAMIS_WHITE 7u
+
+/* Where each part of the state stands among the 48 bytes of binturamis_state. The bytes past the marks are 0. */
+#define BINTURAMIS_STATE_R1 0u /* R1 to R7 in 0 to 6 */
+#define BINTURAMIS_STATE_R2 1u
+#define BINTURAMIS_STATE_R3 2u
+#define BINTURAMIS_STATE_R4 3u
+#define BINTURAMIS_STATE_R5 4u
+#define BINTURAMIS_STATE_R6 5u
+#define BINTURAMIS_STATE_R7 6u
+#define BINTURAMIS_STATE_COMMAND 7u
+#define BINTURAMIS_STATE_STATUS 8u
+#define BINTURAMIS_STATE_TGS 9u
+#define BINTURAMIS_STATE_MAT 10u
+#define BINTURAMIS_STATE_PAT 11u
+#define BINTURAMIS_STATE_DOR 12u
+#define BINTURAMIS_STATE_ROR 13u
+#define BINTURAMIS_STATE_PHASE 14u
+#define BINTURAMIS_STATE_MARKS 15u /* row r at 15 + r, 1 if it is marked and else 0 */
+
+#ifdef __cplusplus
+extern "C" {
+#endif
+
+/*
+ * A processor: the registers, the marks and the phase. Its bytes are the library's; begin with binturamis_power_up, and copy it freely,
+ * together with the memory and the picture that it belongs to. Bytes that no call has left still get a defined answer from every call.
+ */
+typedef struct {
+    uint8_t bytes[64];
+} binturamis_processor;
+
+/* Power-up: all registers and both LX bits 0, command 0x91, phase 0, every row marked. Memory and picture may hold anything. */
+void binturamis_power_up(binturamis_processor *p);
+
+/* Writes the value to the register at the address, and then runs the command if the address asks for it. Refusals: 1, 2, 3, 4. */
+uint32_t binturamis_write(binturamis_processor *p, uint8_t *memory, size_t memory_len, uint8_t address, uint8_t value);
+
+/*
+ * Reads the register at the address, and then runs the command if the address asks for it; so a read may store too. The value is the
+ * register's from before the command, also with refusals 3 and 4. Refusals: 1, 2, 3, 4.
+ */
+uint32_t binturamis_read(binturamis_processor *p, uint8_t *memory, size_t memory_len, uint8_t address);
+
+/* Sets the phase, 0 or 1, and marks the rows with a flashing cell if it has changed. Refusals: 1, 9. */
+uint32_t binturamis_turn(binturamis_processor *p, const uint8_t *memory, size_t memory_len, uint8_t phase);
+
+/*
+ * Draws the marked rows into the picture, touches no other byte of it, and clears the marks. The value is the number of rows redrawn.
+ * Which they are is told by the marks before the draw, from binturamis_state. Refusals: 1, 5, 6, 7, 8.
+ */
+uint32_t binturamis_draw(binturamis_processor *p, const uint8_t *memory, size_t memory_len, const uint8_t *rom, size_t rom_len,
+                         uint8_t *picture, size_t picture_len);
+
+/* Tells the state in 48 bytes, at the offsets BINTURAMIS_STATE_. Nothing changes. */
+void binturamis_state(const binturamis_processor *p, uint8_t out[48]);
+
+/* The number of an answer: 0, or the refusal's. */
+static inline uint32_t binturamis_number(uint32_t answer)
+{
+    return answer / 256u;
+}
+
+/* The value of an answer: the register read, or the rows redrawn. */
+static inline uint8_t binturamis_value(uint32_t answer)
+{
+    return (uint8_t)(answer % 256u);
+}
+
+#ifdef __cplusplus
+}
+#endif
+
+#endif
