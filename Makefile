@@ -1,14 +1,21 @@
-# make panel  the program `panel` on the example of the rules
-# make test   the gate: proofs, must-fail edits, programs, host tests
-# make check  the proofs alone, over what has changed
-# make format the layout of every file
-.PHONY: panel test check format
+# make panel   the program `panel` on the example of the rules
+# make library the archive and the header for C and Rust, in target/library
+# make test    the gate: proofs, must-fail edits, programs, host tests
+# make check   the proofs alone, over what has changed
+# make format  the layout of every file
+.PHONY: panel library test check format
 
 panel: target/bin/panel
 	@cd host && cargo run --quiet --release --offline -p compare --example panel <../crates/panel/stdin
 
 target/bin/panel:
 	rt check panel
+
+library:
+	rt staticlib binturamis
+	mkdir -p target/library
+	cp target/staticlib/libbinturamis.a include/binturamis.h target/library/
+	host/bridge/build target/library
 
 test:
 	./.ci/run
