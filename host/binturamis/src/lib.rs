@@ -1,0 +1,51 @@
+//! Binturamis takes the place of the EF9345 display processor: a host writes and reads the eight
+//! registers, and the library keeps the private memory and draws the page of 25 rows and 40 columns,
+//! only the rows that have changed.
+//!
+//! [`Panel`] owns a processor with its memory, its ROM and its picture. [`write()`], [`read`], [`turn`]
+//! and [`draw`] do the same to a [`Processor`] and slices of the caller's, which may have any length;
+//! a wrong one is refused. Each refusal is a [`Refusal`], which has its number in the rules.
+//!
+//! ```
+//! use binturamis::{Panel, Refusal, ROM_BYTES};
+//!
+//! fn show(panel: &mut Panel, push: impl Fn(usize, &[u8])) -> Result<(), Refusal> {
+//!     let redrawn = panel.draw()?;
+//!     for (row, bytes) in redrawn.rows_of(panel.picture()) {
+//!         push(row, bytes);
+//!     }
+//!     Ok(())
+//! }
+//!
+//! let mut panel = Panel::new([0; ROM_BYTES]);
+//! panel.write(0x21, 0x08)?; // R1 is 8,
+//! panel.write(0x28, 0x87)?; // and goes to ROR by IND: the origin of the page.
+//! show(&mut panel, |row, bytes| println!("row {row} has {} bytes", bytes.len()))?;
+//! # Ok::<(), Refusal>(())
+//! ```
+//!
+//! What is called is the proved library and nothing else. It is compiled for x86-64, where it is
+//! linked; on any other machine each call is carried out by a child process under an emulator, which
+//! is slower by far and answers the same. `make library` makes what is needed for either.
+#![deny(unsafe_code)]
+
+mod answer;
+#[cfg_attr(target_arch = "x86_64", path = "linked.rs")]
+#[cfg_attr(not(target_arch = "x86_64"), path = "bridged/mod.rs")]
+mod engine;
+mod operation;
+mod panel;
+mod redrawn;
+mod refusal;
+mod size;
+mod state;
+
+pub use operation::{draw, read, turn, write, Processor};
+pub use panel::Panel;
+pub use redrawn::{row_of, Redrawn};
+pub use refusal::{Refusal, RefusedRead};
+pub use size::{
+    LINE_BYTES, MEMORY_BYTES, PICTURE_BYTES, PROCESSOR_BYTES, ROM_BYTES, ROWS, ROW_BYTES,
+    STATE_BYTES,
+};
+pub use state::State;

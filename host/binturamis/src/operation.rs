@@ -1,0 +1,148 @@
+//! The operations over what a host lends: a processor and slices of any length.
+
+use crate::answer::Answer;
+use crate::engine;
+use crate::redrawn::Redrawn;
+use crate::refusal::{Refusal, RefusedRead};
+use crate::size::{PROCESSOR_BYTES, STATE_BYTES};
+use crate::state::State;
+
+/// A processor: the registers, the marks and the phase, in bytes that are the library's.
+///
+/// A clone goes with clones of the memory and the picture that the processor belongs to: the kept
+/// picture is right only if each operation has the state that the one before it left.
+#[derive(Clone, Debug, PartialEq, Eq)]
+#[repr(C)]
+pub struct Processor {
+    bytes: [u8; PROCESSOR_BYTES],
+}
+
+impl Processor {
+    /// All registers and both LX bits 0, command 91 hex, phase 0, every row marked. Memory and
+    /// picture may hold anything.
+    pub fn power_up() -> Processor {
+        let mut processor = Processor::of_bytes([0; PROCESSOR_BYTES]);
+        engine::power_up(&mut processor);
+        processor
+    }
+
+    /// A processor that was kept as bytes. Bytes that no operation has left still get a defined
+    /// answer from each.
+    pub fn of_bytes(bytes: [u8; PROCESSOR_BYTES]) -> Processor {
+        Processor { bytes }
+    }
+
+    /// The bytes, to be kept.
+    pub fn bytes(&self) -> &[u8; PROCESSOR_BYTES] {
+        &self.bytes
+    }
+
+    pub fn state(&self) -> State {
+        State::of_bytes(&self.state_bytes())
+    }
+
+    /// The state as the 48 bytes of the C interface.
+    pub fn state_bytes(&self) -> [u8; STATE_BYTES] {
+        engine::state(self)
+    }
+}
+
+/// Writes the value to the register at the address, and then runs the command if the address asks
+/// for it. Refusals: 1, 2, 3, 4.
+///
+/// ```
+/// use binturamis::{Processor, Refusal, MEMORY_BYTES};
+///
+/// let mut processor = Processor::power_up();
+/// let mut memory = vec![0; MEMORY_BYTES];
+/// binturamis::write(&mut processor, &mut memory, 0x21, 0x08)?;
+/// assert_eq!(processor.state().r1, 0x08);
+///
+/// let refused = binturamis::write(&mut processor, &mut memory[1..], 0x21, 0x09);
+/// assert_eq!(refused, Err(Refusal::WrongMemory));
+/// # Ok::<(), Refusal>(())
+/// ```
+pub fn write(
+    processor: &mut Processor,
+    memory: &mut [u8],
+    address: u8,
+    value: u8,
+) -> Result<(), Refusal> {
+    let answered = engine::write(processor, memory, address, value);
+    Answer::of(answered).accepted().map(|_| ())
+}
+
+/// Reads the register at the address, and then runs the command if the address asks for it: so a
+/// read may store too. The value is the register's from before the command. Refusals: 1, 2, 3, 4.
+///
+/// ```
+/// use binturamis::{Processor, Refusal, MEMORY_BYTES};
+///
+/// let mut processor = Processor::power_up();
+/// let mut memory = vec![0; MEMORY_BYTES];
+/// binturamis::write(&mut processor, &mut memory, 0x20, 0x05)?; // a command that is not listed
+/// binturamis::write(&mut processor, &mut memory, 0x21, 0x4B)?;
+/// assert_eq!(binturamis::read(&mut processor, &mut memory, 0x21), Ok(0x4B));
+///
+/// // The same with execution: it is refused, and the value is not lost.
+/// let refused = binturamis::read(&mut processor, &mut memory, 0x29).unwrap_err();
+/// assert_eq!(refused.refusal(), Refusal::NotListed);
+/// assert_eq!(refused.value(), Some(0x4B));
+/// # Ok::<(), Refusal>(())
+/// ```
+pub fn read(processor: &mut Processor, memory: &mut [u8], address: u8) -> Result<u8, RefusedRead> {
+    let answer = Answer::of(engine::read(processor, memory, address));
+    answer
+        .accepted()
+        .map_err(|refusal| RefusedRead::new(refusal, answer.value))
+}
+
+/// Sets the phase, 0 or 1; a changed one marks the rows with a cell that flashes. Refusals: 1, 9.
+///
+/// ```
+/// use binturamis::{Processor, Refusal, MEMORY_BYTES};
+///
+/// let mut processor = Processor::power_up();
+/// let memory = vec![0; MEMORY_BYTES];
+/// binturamis::turn(&mut processor, &memory, 1)?;
+/// assert_eq!(processor.state().phase, 1);
+/// assert_eq!(binturamis::turn(&mut processor, &memory, 2), Err(Refusal::WrongPhase));
+/// # Ok::<(), Refusal>(())
+/// ```
+pub fn turn(processor: &mut Processor, memory: &[u8], phase: u8) -> Result<(), Refusal> {
+    let answered = engine::turn(processor, memory, phase);
+    Answer::of(answered).accepted().map(|_| ())
+}
+
+/// Draws the marked rows into the picture, touches no other byte of it, and clears the marks.
+/// Refusals: 1, 5, 6, 7, 8.
+///
+/// ```
+/// use binturamis::{Processor, Refusal, MEMORY_BYTES, PICTURE_BYTES, ROM_BYTES};
+///
+/// let mut processor = Processor::power_up();
+/// let mut memory = vec![0; MEMORY_BYTES];
+/// let rom = vec![0; ROM_BYTES];
+/// let mut picture = vec![0xEE; PICTURE_BYTES];
+/// let refused = binturamis::draw(&mut processor, &memory, &rom, &mut picture);
+/// assert_eq!(refused, Err(Refusal::LowOrigin));
+/// assert_eq!(picture, [0xEE; PICTURE_BYTES]);
+///
+/// binturamis::write(&mut processor, &mut memory, 0x21, 0x08)?; // an origin,
+/// binturamis::write(&mut processor, &mut memory, 0x28, 0x87)?; // to ROR
+/// let redrawn = binturamis::draw(&mut processor, &memory, &rom, &mut picture)?;
+/// assert_eq!(redrawn.count(), 25);
+/// assert_eq!(picture, [0; PICTURE_BYTES]);
+/// # Ok::<(), Refusal>(())
+/// ```
+pub fn draw(
+    processor: &mut Processor,
+    memory: &[u8],
+    rom: &[u8],
+    picture: &mut [u8],
+) -> Result<Redrawn, Refusal> {
+    let marks = processor.state().marks;
+    let answered = engine::draw(processor, memory, rom, picture);
+    let count = Answer::of(answered).accepted()?;
+    Ok(Redrawn::new(count, marks))
+}

@@ -1,0 +1,110 @@
+//! A panel: a processor that owns its memory, its ROM and its picture.
+
+use crate::operation::{self, Processor};
+use crate::redrawn::{row_of, Redrawn};
+use crate::refusal::{Refusal, RefusedRead};
+use crate::size::{MEMORY_BYTES, PICTURE_BYTES, ROM_BYTES};
+use crate::state::State;
+
+/// A processor with what it needs, so that the premises of the kept picture hold by themselves:
+/// nobody else writes the memory or the picture, and the ROM stays.
+///
+/// The buffers have the right lengths, so that an access gets of the refusals 2, 3 and 4, a phase
+/// change 9, and a draw 7 and 8.
+///
+/// ```
+/// use binturamis::{Panel, Refusal, LINE_BYTES, ROM_BYTES};
+///
+/// let mut panel = Panel::new([0; ROM_BYTES]);
+/// assert_eq!(panel.draw(), Err(Refusal::LowOrigin)); // until an origin is set
+///
+/// // The origin to ROR, the user sets to DOR; then a slice by OCT and a cell by KRF.
+/// for (address, value) in [
+///     (0x21, 0x08), (0x28, 0x87), (0x21, 0x03), (0x28, 0x84), (0x26, 0x00), (0x27, 0xC0),
+///     (0x20, 0x30), (0x29, 0x52), (0x20, 0x00), (0x26, 0x08), (0x27, 0x00), (0x22, 0x80),
+///     (0x23, 0x70), (0x29, 0x00),
+/// ] {
+///     panel.write(address, value)?;
+/// }
+/// assert_eq!(panel.draw()?.count(), 25);
+/// let line = &panel.picture()[10 * LINE_BYTES..];
+/// assert_eq!(line[..8], [0x70, 0x00, 0x07, 0x07, 0, 0, 0, 0]);
+/// # Ok::<(), Refusal>(())
+/// ```
+#[derive(Clone, Debug, PartialEq, Eq)]
+pub struct Panel {
+    processor: Processor,
+    memory: Box<[u8; MEMORY_BYTES]>,
+    rom: Box<[u8; ROM_BYTES]>,
+    picture: Box<[u8; PICTURE_BYTES]>,
+}
+
+impl Panel {
+    /// Power-up with a character ROM, zero memory and a zero picture.
+    pub fn new(rom: [u8; ROM_BYTES]) -> Panel {
+        Panel {
+            processor: Processor::power_up(),
+            memory: Box::new([0; MEMORY_BYTES]),
+            rom: Box::new(rom),
+            picture: Box::new([0; PICTURE_BYTES]),
+        }
+    }
+
+    /// Writes a register, and runs the command if the address asks for it. See
+    /// [`write`](crate::write()).
+    pub fn write(&mut self, address: u8, value: u8) -> Result<(), Refusal> {
+        operation::write(&mut self.processor, &mut self.memory[..], address, value)
+    }
+
+    /// Reads a register, and runs the command if the address asks for it. See [`read`](crate::read).
+    pub fn read(&mut self, address: u8) -> Result<u8, RefusedRead> {
+        operation::read(&mut self.processor, &mut self.memory[..], address)
+    }
+
+    /// Sets the phase. See [`turn`](crate::turn).
+    pub fn turn(&mut self, phase: u8) -> Result<(), Refusal> {
+        operation::turn(&mut self.processor, &self.memory[..], phase)
+    }
+
+    /// Draws the marked rows into the panel's picture. See [`draw`](crate::draw).
+    pub fn draw(&mut self) -> Result<Redrawn, Refusal> {
+        operation::draw(
+            &mut self.processor,
+            &self.memory[..],
+            &self.rom[..],
+            &mut self.picture[..],
+        )
+    }
+
+    /// The picture as the last accepted draw left it.
+    pub fn picture(&self) -> &[u8; PICTURE_BYTES] {
+        &self.picture
+    }
+
+    /// The 1,600 bytes of a row of the picture.
+    ///
+    /// # Panics
+    ///
+    /// If there is no such row: they are 0 to 24.
+    pub fn row(&self, row: usize) -> &[u8] {
+        row_of(&self.picture, row)
+    }
+
+    /// The private memory.
+    pub fn memory(&self) -> &[u8; MEMORY_BYTES] {
+        &self.memory
+    }
+
+    /// The character ROM.
+    pub fn rom(&self) -> &[u8; ROM_BYTES] {
+        &self.rom
+    }
+
+    pub fn processor(&self) -> &Processor {
+        &self.processor
+    }
+
+    pub fn state(&self) -> State {
+        self.processor.state()
+    }
+}

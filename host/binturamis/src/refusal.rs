@@ -1,0 +1,139 @@
+//! Why an operation was refused.
+
+use std::error::Error;
+use std::fmt;
+
+/// A refusal, by its number in the rules.
+///
+/// An access is checked in the order 1, 2, 3, 4, a phase change 1, 9 and a draw 1, 5, 6, 7, 8; the
+/// first that applies is given. After 3 and 4 the register access itself has happened, and nothing
+/// else. After every other refusal nothing at all has changed.
+///
+/// A later number is a new case, and a `match` that has thought of every refusal is then no longer
+/// complete: the enum is not `non_exhaustive`, so that the compiler says so.
+///
+/// ```
+/// use binturamis::Refusal;
+///
+/// assert_eq!(Refusal::LowOrigin.number(), 8);
+/// assert_eq!(Refusal::LowOrigin.to_string(), "refusal 8: origin YOR below 8");
+/// ```
+#[derive(Clone, Copy, Debug, PartialEq, Eq, PartialOrd, Ord, Hash)]
+#[repr(u8)]
+pub enum Refusal {
+    /// Private memory is not 16,384 bytes.
+    WrongMemory = 1,
+    /// The address's high four bits are not 2.
+    WrongAddress = 2,
+    /// A command to execute is not listed.
+    NotListed = 3,
+    /// Its pointer has X above 39 or Y from 1 to 7.
+    BadPointer = 4,
+    /// ROM is not 6,400 bytes.
+    WrongRom = 5,
+    /// Picture is not 40,000 bytes.
+    WrongPicture = 6,
+    /// TGS bits 7, 6 or 5, or PAT bit 7, not zero.
+    NotBuilt = 7,
+    /// Origin YOR below 8.
+    LowOrigin = 8,
+    /// Phase is not 0 or 1.
+    WrongPhase = 9,
+}
+
+impl Refusal {
+    /// Every refusal, by rising number.
+    pub const ALL: [Refusal; 9] = [
+        Refusal::WrongMemory,
+        Refusal::WrongAddress,
+        Refusal::NotListed,
+        Refusal::BadPointer,
+        Refusal::WrongRom,
+        Refusal::WrongPicture,
+        Refusal::NotBuilt,
+        Refusal::LowOrigin,
+        Refusal::WrongPhase,
+    ];
+
+    /// The number in the rules, 1 to 9.
+    pub fn number(self) -> u8 {
+        self as u8
+    }
+
+    /// The refusal of a number; none for 0, which is no refusal, and for a number that there is not.
+    pub fn of_number(number: u8) -> Option<Refusal> {
+        let mut all = Refusal::ALL.into_iter();
+        all.find(|refusal| refusal.number() == number)
+    }
+
+    fn words(self) -> &'static str {
+        match self {
+            Refusal::WrongMemory => "private memory is not 16,384 bytes",
+            Refusal::WrongAddress => "the address's high four bits are not 2",
+            Refusal::NotListed => "a command to execute is not listed",
+            Refusal::BadPointer => "the command's pointer has X above 39 or Y from 1 to 7",
+            Refusal::WrongRom => "ROM is not 6,400 bytes",
+            Refusal::WrongPicture => "picture is not 40,000 bytes",
+            Refusal::NotBuilt => "TGS bits 7, 6 or 5, or PAT bit 7, not zero",
+            Refusal::LowOrigin => "origin YOR below 8",
+            Refusal::WrongPhase => "phase is not 0 or 1",
+        }
+    }
+}
+
+impl fmt::Display for Refusal {
+    fn fmt(&self, to: &mut fmt::Formatter) -> fmt::Result {
+        write!(to, "refusal {}: {}", self.number(), self.words())
+    }
+}
+
+impl Error for Refusal {}
+
+/// A refused read. With refusals 3 and 4 the register has been read all the same, and its value is
+/// kept here.
+///
+/// It turns into its [`Refusal`], so that `?` serves where the value is of no use.
+#[derive(Clone, Copy, Debug, PartialEq, Eq)]
+pub struct RefusedRead {
+    refusal: Refusal,
+    value: u8,
+}
+
+impl RefusedRead {
+    pub(crate) fn new(refusal: Refusal, value: u8) -> RefusedRead {
+        RefusedRead { refusal, value }
+    }
+
+    pub fn refusal(self) -> Refusal {
+        self.refusal
+    }
+
+    /// The value of the register, if it was read: with refusals 3 and 4.
+    pub fn value(self) -> Option<u8> {
+        match self.refusal {
+            Refusal::NotListed | Refusal::BadPointer => Some(self.value),
+            _ => None,
+        }
+    }
+}
+
+impl fmt::Display for RefusedRead {
+    fn fmt(&self, to: &mut fmt::Formatter) -> fmt::Result {
+        match self.value() {
+            Some(value) => write!(to, "{}; the value read is {value:02X} hex", self.refusal),
+            None => self.refusal.fmt(to),
+        }
+    }
+}
+
+impl Error for RefusedRead {
+    fn source(&self) -> Option<&(dyn Error + 'static)> {
+        Some(&self.refusal)
+    }
+}
+
+impl From<RefusedRead> for Refusal {
+    fn from(refused: RefusedRead) -> Refusal {
+        refused.refusal
+    }
+}
