@@ -11,19 +11,36 @@ pub(crate) struct Answer {
 }
 
 impl Answer {
-    /// The library answers no other number than those of the rules.
+    /// Fails where the library answers what the rules do not know: so no part of an answer is dropped
+    /// unseen.
     pub fn of(answered: u32) -> Answer {
         let [value, number, high @ ..] = answered.to_le_bytes();
         let refusal = Refusal::of_number(number);
+        let answer = Answer { refusal, value };
+        let known = high == [0, 0] && (number == 0 || refusal.is_some());
         assert!(
-            high == [0, 0] && (number == 0 || refusal.is_some()),
+            known && (value == 0 || answer.may_have_value()),
             "the library answered {answered}, which the rules do not know"
         );
-        Answer { refusal, value }
+        answer
+    }
+
+    /// Whether a register may have been read, or rows redrawn.
+    fn may_have_value(self) -> bool {
+        match self.refusal {
+            None => true,
+            Some(refusal) => refusal.is_after_access(),
+        }
     }
 
     /// The value, if the operation was accepted.
     pub fn accepted(self) -> Result<u8, Refusal> {
         self.refusal.map_or(Ok(self.value), Err)
+    }
+
+    /// Of a write or a phase change, whose value is always 0.
+    pub fn done(self) -> Result<(), Refusal> {
+        assert_eq!(self.value, 0, "the library answered a value to no question");
+        self.refusal.map_or(Ok(()), Err)
     }
 }

@@ -69,7 +69,7 @@ pub fn write(
     value: u8,
 ) -> Result<(), Refusal> {
     let answered = engine::write(processor, memory, address, value);
-    Answer::of(answered).accepted().map(|_| ())
+    Answer::of(answered).done()
 }
 
 /// Reads the register at the address, and then runs the command if the address asks for it: so a
@@ -111,7 +111,7 @@ pub fn read(processor: &mut Processor, memory: &mut [u8], address: u8) -> Result
 /// ```
 pub fn turn(processor: &mut Processor, memory: &[u8], phase: u8) -> Result<(), Refusal> {
     let answered = engine::turn(processor, memory, phase);
-    Answer::of(answered).accepted().map(|_| ())
+    Answer::of(answered).done()
 }
 
 /// Draws the marked rows into the picture, touches no other byte of it, and clears the marks.

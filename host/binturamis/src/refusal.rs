@@ -66,6 +66,11 @@ impl Refusal {
         all.find(|refusal| refusal.number() == number)
     }
 
+    /// Whether the register access itself has happened all the same.
+    pub fn is_after_access(self) -> bool {
+        matches!(self, Refusal::NotListed | Refusal::BadPointer)
+    }
+
     fn words(self) -> &'static str {
         match self {
             Refusal::WrongMemory => "private memory is not 16,384 bytes",
@@ -110,10 +115,7 @@ impl RefusedRead {
 
     /// The value of the register, if it was read: with refusals 3 and 4.
     pub fn value(self) -> Option<u8> {
-        match self.refusal {
-            Refusal::NotListed | Refusal::BadPointer => Some(self.value),
-            _ => None,
-        }
+        self.refusal.is_after_access().then_some(self.value)
     }
 }
 

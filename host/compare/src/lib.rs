@@ -10,6 +10,7 @@ pub mod conversation;
 pub mod desk;
 pub mod difference;
 pub mod filling;
+pub mod forty_columns;
 pub mod kit;
 pub mod lengths;
 pub mod met;

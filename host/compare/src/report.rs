@@ -6,6 +6,9 @@ use second::{Answer, Processor, ROWS};
 
 const BYTES: usize = 46;
 
+/// The bytes in which the library tells its state.
+pub const STATE: usize = 48;
+
 /// Flags are kept as bytes, so that a byte which is neither 0 nor 1 is a difference.
 #[derive(Clone, Debug, PartialEq, Eq)]
 pub struct Report {
@@ -37,6 +40,26 @@ impl Report {
         }
     }
 
+    /// What the library answers and leaves, by the 48 bytes in which it tells its state. Of the status
+    /// LXm and LXa are kept, since a status that is not theirs fails here.
+    pub fn told(answer: Answer, state: &[u8; STATE]) -> Report {
+        let (lxm, lxa) = lx_bits(state[8]);
+        assert_eq!(state[40..], [0; 8], "the bytes past the marks");
+        let [tgs, mat, pat, dor, ror] = part(state, 9);
+        Report {
+            number: answer.number,
+            value: answer.value,
+            registers: [
+                state[7], state[0], state[1], state[2], state[3], state[4], state[5], state[6],
+            ],
+            indirect: [0, tgs, mat, pat, dor, 0, 0, ror],
+            lxm,
+            lxa,
+            phase: state[14],
+            marks: part(state, 15),
+        }
+    }
+
     pub fn read(from: &mut impl Read) -> io::Result<Report> {
         let mut bytes = [0; BYTES];
         from.read_exact(&mut bytes)?;
@@ -53,7 +76,18 @@ impl Report {
     }
 }
 
-fn part<const N: usize>(bytes: &[u8; BYTES], from: usize) -> [u8; N] {
+/// LXm and LXa of a status: "bit 7 busy, 6 set if either LX is set, 5 LXm, 4 LXa, others 0".
+fn lx_bits(status: u8) -> (u8, u8) {
+    match status {
+        0b0000_0000 => (0, 0),
+        0b0110_0000 => (1, 0),
+        0b0101_0000 => (0, 1),
+        0b0111_0000 => (1, 1),
+        _ => panic!("the status is {status:02X}"),
+    }
+}
+
+fn part<const N: usize>(bytes: &[u8], from: usize) -> [u8; N] {
     let mut part = [0; N];
     part.copy_from_slice(&bytes[from..from + N]);
     part
