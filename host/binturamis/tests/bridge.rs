@@ -1,0 +1,74 @@
+//! The program `bridge`, which carries out calls where the library cannot be linked: it greets, ends
+//! with its input, and says what is wrong with a request before it ends.
+#![cfg(not(target_arch = "x86_64"))]
+
+use std::io::Write;
+use std::path::Path;
+use std::process::{Command, Output, Stdio};
+
+const GREETING: &[u8] = b"binturamis bridge 1\n";
+
+/// What the bridge does with these bytes and no more.
+fn given(bytes: &[u8]) -> Output {
+    let library = Path::new(env!("BINTURAMIS_LIBRARY"));
+    let mut child = Command::new(library.join("emulator"))
+        .arg(library.join("bridge"))
+        .stdin(Stdio::piped())
+        .stdout(Stdio::piped())
+        .stderr(Stdio::piped())
+        .spawn()
+        .expect("the bridge starts");
+    let mut input = child.stdin.take().expect("standard input is a pipe");
+    input.write_all(bytes).expect("the bridge reads");
+    drop(input);
+    child.wait_with_output().expect("the bridge ends")
+}
+
+/// Power-up, as a request.
+fn power_up() -> Vec<u8> {
+    [&b"P\0\0"[..], &[0; 64]].concat()
+}
+
+/// A phase change with a memory of this length, in which so many bytes are replaced from a start on.
+fn turn(length: u64, start: u64, count: u64) -> Vec<u8> {
+    let numbers = [length, start, count].map(u64::to_le_bytes).concat();
+    [&b"T\0\0"[..], &[0; 64], &numbers].concat()
+}
+
+#[test]
+fn it_ends_well_with_its_input() {
+    let ended = given(&[]);
+    assert!(ended.status.success());
+    assert_eq!(ended.stdout, GREETING);
+    let answered = given(&power_up());
+    assert!(answered.status.success());
+    // The 64 bytes, the answered number and the 48 bytes of the state.
+    assert_eq!(answered.stdout.len(), GREETING.len() + 64 + 4 + 48);
+    assert_eq!(answered.stdout[GREETING.len() + 64..][..4], [0; 4]);
+}
+
+#[test]
+fn it_says_what_is_wrong_with_a_request() {
+    let cut = |length: usize| [power_up(), power_up()[..length].to_vec()].concat();
+    let mut of_no_call = power_up();
+    of_no_call[0] = b'X';
+    for (request, wrong) in [
+        (cut(1), "a request was cut short"),
+        (cut(66), "a request was cut short"),
+        (turn(16_384, 0, 8), "a request was cut short"),
+        (of_no_call, "a request has no call that there is"),
+        (turn(8, 9, 0), "a request has bytes outside its buffer"),
+        (turn(8, 8, 1), "a request has bytes outside its buffer"),
+        (
+            turn(8, 1, u64::MAX),
+            "a request has bytes outside its buffer",
+        ),
+        (turn(u64::MAX, 0, 0), "a buffer is too long to be kept"),
+        (turn(u64::MAX / 2, 0, 0), "a buffer is too long to be kept"),
+    ] {
+        let ended = given(&request);
+        assert_eq!(ended.status.code(), Some(1), "{wrong}");
+        let said = String::from_utf8_lossy(&ended.stderr);
+        assert_eq!(said, format!("bridge: {wrong}\n"));
+    }
+}

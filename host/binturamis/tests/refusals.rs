@@ -1,0 +1,169 @@
+//! Each refusal, met through the functions over borrowed slices and through a panel: its number, its
+//! words, and what is left after it.
+
+use std::error::Error;
+
+use binturamis::{
+    Panel, Processor, Refusal, RefusedRead, MEMORY_BYTES, PICTURE_BYTES, ROM_BYTES, ROWS,
+};
+
+#[test]
+fn the_numbers_are_1_to_9() {
+    let numbers = Refusal::ALL.map(Refusal::number);
+    assert_eq!(numbers, [1, 2, 3, 4, 5, 6, 7, 8, 9]);
+    for number in 0..=255 {
+        let found = Refusal::of_number(number).map(Refusal::number);
+        assert_eq!(found, numbers.contains(&number).then_some(number));
+    }
+}
+
+#[test]
+fn the_words_are_the_rules() {
+    let said = Refusal::ALL.map(|refusal| refusal.to_string());
+    let wanted = [
+        "refusal 1: private memory is not 16,384 bytes",
+        "refusal 2: the address's high four bits are not 2",
+        "refusal 3: a command to execute is not listed",
+        "refusal 4: the command's pointer has X above 39 or Y from 1 to 7",
+        "refusal 5: ROM is not 6,400 bytes",
+        "refusal 6: picture is not 40,000 bytes",
+        "refusal 7: TGS bits 7, 6 or 5, or PAT bit 7, not zero",
+        "refusal 8: origin YOR below 8",
+        "refusal 9: phase is not 0 or 1",
+    ];
+    assert_eq!(said, wanted);
+}
+
+/// A processor and buffers of which the memory, the ROM and the picture have the lengths given.
+struct Lent {
+    processor: Processor,
+    memory: Vec<u8>,
+    rom: Vec<u8>,
+    picture: Vec<u8>,
+}
+
+impl Lent {
+    fn of(memory: usize, rom: usize, picture: usize) -> Lent {
+        Lent {
+            processor: Processor::power_up(),
+            memory: vec![0x11; memory],
+            rom: vec![0x22; rom],
+            picture: vec![0x33; picture],
+        }
+    }
+
+    /// The refusal of a draw, after which nothing has changed.
+    fn draw_refusal(&mut self) -> Option<Refusal> {
+        let before = (self.processor.clone(), self.picture.clone());
+        let drawn = binturamis::draw(
+            &mut self.processor,
+            &self.memory,
+            &self.rom,
+            &mut self.picture,
+        );
+        let refusal = drawn.err()?;
+        assert_eq!((self.processor.clone(), self.picture.clone()), before);
+        Some(refusal)
+    }
+}
+
+/// Lengths next to a right one, and far from it.
+fn wrong(right: usize) -> [usize; 5] {
+    [0, 1, right - 1, right + 1, 3 * right]
+}
+
+#[test]
+fn a_memory_of_another_length_is_refused_by_1() {
+    for length in wrong(MEMORY_BYTES) {
+        let mut lent = Lent::of(length, ROM_BYTES, PICTURE_BYTES);
+        let (processor, memory) = (&mut lent.processor, &mut lent.memory);
+        // The address and the phase are bad too: 1 comes first.
+        let written = binturamis::write(processor, memory, 0x00, 0x5A);
+        assert_eq!(written, Err(Refusal::WrongMemory));
+        let read = binturamis::read(processor, memory, 0x00).expect_err("it is refused");
+        assert_eq!((read.refusal(), read.value()), (Refusal::WrongMemory, None));
+        let turned = binturamis::turn(processor, memory, 2);
+        assert_eq!(turned, Err(Refusal::WrongMemory));
+        assert_eq!(*processor, Processor::power_up());
+        assert_eq!(*memory, vec![0x11; length]);
+        assert_eq!(lent.draw_refusal(), Some(Refusal::WrongMemory));
+    }
+}
+
+#[test]
+fn a_draw_is_refused_by_5_then_6_then_7_then_8() -> Result<(), Refusal> {
+    for length in wrong(ROM_BYTES) {
+        let mut lent = Lent::of(MEMORY_BYTES, length, 0);
+        assert_eq!(lent.draw_refusal(), Some(Refusal::WrongRom));
+    }
+    for length in wrong(PICTURE_BYTES) {
+        let mut lent = Lent::of(MEMORY_BYTES, ROM_BYTES, length);
+        assert_eq!(lent.draw_refusal(), Some(Refusal::WrongPicture));
+    }
+    let mut lent = Lent::of(MEMORY_BYTES, ROM_BYTES, PICTURE_BYTES);
+    for (command, value, refusal) in [
+        (0x81, 0x20, Some(Refusal::NotBuilt)),
+        (0x81, 0x1F, Some(Refusal::LowOrigin)),
+        (0x83, 0x80, Some(Refusal::NotBuilt)),
+        (0x83, 0x7F, Some(Refusal::LowOrigin)),
+        (0x87, 0xE7, Some(Refusal::LowOrigin)),
+        (0x87, 0xE8, None),
+    ] {
+        let (processor, memory) = (&mut lent.processor, &mut lent.memory);
+        binturamis::write(processor, memory, 0x21, value)?;
+        binturamis::write(processor, memory, 0x28, command)?;
+        assert_eq!(lent.draw_refusal(), refusal, "{command:02X} {value:02X}");
+    }
+    assert_ne!(lent.picture, vec![0x33; PICTURE_BYTES]);
+    Ok(())
+}
+
+#[test]
+fn a_panel_refuses_by_2_3_4_7_8_and_9() -> Result<(), Refusal> {
+    let mut panel = Panel::new([0; ROM_BYTES]);
+    assert_eq!(panel.draw(), Err(Refusal::LowOrigin));
+    assert_eq!(panel.turn(2), Err(Refusal::WrongPhase));
+    assert_eq!(panel.write(0x31, 0), Err(Refusal::WrongAddress));
+    assert_eq!(panel, Panel::new([0; ROM_BYTES]));
+
+    assert_eq!(panel.write(0x28, 0x05), Err(Refusal::NotListed));
+    assert_eq!(panel.state().command, 0x05, "the access has happened");
+    panel.write(0x20, 0x00)?;
+    assert_eq!(panel.write(0x2E, 0x01), Err(Refusal::BadPointer));
+    assert_eq!(panel.state().r6, 0x01, "the access has happened");
+
+    panel.write(0x21, 0x80)?;
+    panel.write(0x28, 0x83)?;
+    assert_eq!(panel.draw(), Err(Refusal::NotBuilt));
+    assert_eq!(panel.state().marks, [true; ROWS]);
+    Ok(())
+}
+
+/// A refused read by way of `?`.
+fn read_by_refusal(panel: &mut Panel, address: u8) -> Result<u8, Refusal> {
+    Ok(panel.read(address)?)
+}
+
+#[test]
+fn a_refused_read_has_the_value_read() -> Result<(), Box<dyn Error>> {
+    let mut panel = Panel::new([0; ROM_BYTES]);
+    panel.write(0x27, 0xE8)?; // X 40
+    for (command, refusal) in [(0x05, Refusal::NotListed), (0x08, Refusal::BadPointer)] {
+        panel.write(0x20, command)?;
+        let refused: RefusedRead = panel.read(0x2F).expect_err("it is refused");
+        assert_eq!(refused.refusal(), refusal);
+        assert_eq!(refused.value(), Some(0xE8));
+        assert_eq!(
+            refused.to_string(),
+            format!("{refusal}; the value read is E8 hex")
+        );
+        let source = refused.source().map(ToString::to_string);
+        assert_eq!(source, Some(refusal.to_string()));
+        assert_eq!(read_by_refusal(&mut panel, 0x2F), Err(refusal));
+    }
+    let refused = panel.read(0x37).expect_err("it is refused");
+    assert_eq!(refused.to_string(), Refusal::WrongAddress.to_string());
+    assert_eq!(refused.value(), None);
+    assert_eq!(panel.read(0x27), Ok(0xE8));
+    Ok(())
+}
