@@ -131,7 +131,8 @@ extern "C" {
 
 /*
  * A processor: the registers, the marks and the phase. Its bytes are the library's; begin with binturamis_power_up, and copy it freely,
- * together with the memory and the picture that it belongs to. Bytes that no call has left still get a defined answer from every call.
+ * together with the memory and the picture that it belongs to. Bytes that no call has left mean the state that binturamis_state tells of
+ * them, and get the answers of that state; a call, also a refused one, then leaves bytes of its own for the state after it.
  */
 typedef struct {
     uint8_t bytes[64];

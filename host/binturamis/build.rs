@@ -1,19 +1,28 @@
-//! Finds the library that `make library` leaves: the directory that `BINTURAMIS_LIBRARY_DIR` names, or `target/library` of
-//! the repository.
+//! Finds the library that `make library` leaves: in the directory that `BINTURAMIS_LIBRARY_DIR` names, or
+//! in `target/library` of the repository.
 
 use std::env;
 use std::path::{Path, PathBuf};
+use std::process;
 
 const DIRECTORY: &str = "BINTURAMIS_LIBRARY_DIR";
 
-fn main() -> Result<(), String> {
+fn main() {
+    if let Err(error) = find() {
+        eprintln!("{error}");
+        process::exit(1);
+    }
+}
+
+fn find() -> Result<(), String> {
     println!("cargo:rerun-if-env-changed={DIRECTORY}");
     let directory = directory()?;
     let archive = directory.join("libbinturamis.a");
     println!("cargo:rerun-if-changed={}", archive.display());
     if !archive.is_file() {
         return Err(format!(
-            "{} is missing: run `make library` at the top of the repository, or name the directory that has it in {DIRECTORY}",
+            "{} is missing: run `make library` at the top of the repository, \
+             or name the directory that has it in {DIRECTORY}",
             archive.display()
         ));
     }

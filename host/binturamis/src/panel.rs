@@ -1,5 +1,7 @@
 //! A panel: a processor that owns its memory, its ROM and its picture.
 
+use std::fmt;
+
 use crate::operation::{self, Processor};
 use crate::redrawn::{row_of, Redrawn};
 use crate::refusal::{Refusal, RefusedRead};
@@ -31,7 +33,7 @@ use crate::state::State;
 /// assert_eq!(line[..8], [0x70, 0x00, 0x07, 0x07, 0, 0, 0, 0]);
 /// # Ok::<(), Refusal>(())
 /// ```
-#[derive(Clone, Debug, PartialEq, Eq)]
+#[derive(Clone, PartialEq, Eq)]
 pub struct Panel {
     processor: Processor,
     memory: Box<[u8; MEMORY_BYTES]>,
@@ -106,5 +108,14 @@ impl Panel {
 
     pub fn state(&self) -> State {
         self.processor.state()
+    }
+}
+
+/// The state alone: the buffers are 62,784 bytes.
+impl fmt::Debug for Panel {
+    fn fmt(&self, to: &mut fmt::Formatter) -> fmt::Result {
+        to.debug_struct("Panel")
+            .field("state", &self.state())
+            .finish_non_exhaustive()
     }
 }
