@@ -1,5 +1,5 @@
-//! Finds the library that `make library` leaves: in the directory that `BINTURAMIS_LIBRARY_DIR` names, or
-//! in `target/library` of the repository.
+//! Finds the library that `make library` leaves: in the directory that `BINTURAMIS_LIBRARY_DIR`
+//! names, or in `target/library` of the repository.
 
 use std::env;
 use std::path::{Path, PathBuf};

@@ -11,8 +11,8 @@ pub(crate) struct Answer {
 }
 
 impl Answer {
-    /// Fails where the library answers what the rules do not know: so no part of an answer is dropped
-    /// unseen.
+    /// Fails where the library answers what the rules do not know: so no part of an answer is
+    /// dropped unseen.
     pub fn of(answered: u32) -> Answer {
         let [value, number, high @ ..] = answered.to_le_bytes();
         let refusal = Refusal::of_number(number);

@@ -1,10 +1,11 @@
 //! Binturamis takes the place of the EF9345 display processor: a host writes and reads the eight
-//! registers, and the library keeps the private memory and draws the page of 25 rows and 40 columns,
-//! only the rows that have changed.
+//! registers, and the library keeps the private memory and draws the page of 25 rows and 40
+//! columns, only the rows that have changed.
 //!
-//! [`Panel`] owns a processor with its memory, its ROM and its picture. [`write()`], [`read`], [`turn`]
-//! and [`draw`] do the same to a [`Processor`] and slices of the caller's, which may have any length;
-//! a wrong one is refused. Each refusal is a [`Refusal`], which has its number in the rules.
+//! [`Panel`] owns a processor with its memory, its ROM and its picture. [`write()`], [`read`],
+//! [`turn`] and [`draw`] do the same to a [`Processor`] and slices of the caller's, which may have
+//! any length; a wrong one is refused. Each refusal is a [`Refusal`], which has its number in the
+//! rules.
 //!
 //! ```
 //! use binturamis::{Panel, Refusal, ROM_BYTES};
@@ -25,8 +26,8 @@
 //! ```
 //!
 //! What is called is the proved library and nothing else. It is compiled for x86-64, where it is
-//! linked; on any other machine each call is carried out by a child process under an emulator, which
-//! is slower by far and answers the same. `make library` makes what is needed for either.
+//! linked; on any other machine each call is carried out by a child process under an emulator,
+//! which is slower by far and answers the same. `make library` makes what is needed for either.
 #![deny(unsafe_code)]
 
 mod answer;

@@ -3,8 +3,8 @@
 //! Each call is sound for the same reasons. A reference or a slice is never null, points at so many
 //! bytes as its length says, and is borrowed for as long as the call lasts, alone where it is
 //! mutable: so no two of a call's buffers overlap and nobody else writes them. `Processor` has the
-//! layout of `binturamis_processor`, 64 bytes. The library keeps no pointer, has nothing global, and
-//! refuses a wrong length before it touches a byte.
+//! layout of `binturamis_processor`, 64 bytes. The library keeps no pointer, has nothing global,
+//! and refuses a wrong length before it touches a byte.
 #![allow(unsafe_code)]
 
 use crate::operation::Processor;

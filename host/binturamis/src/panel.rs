@@ -58,7 +58,8 @@ impl Panel {
         operation::write(&mut self.processor, &mut self.memory[..], address, value)
     }
 
-    /// Reads a register, and runs the command if the address asks for it. See [`read`](crate::read).
+    /// Reads a register, and runs the command if the address asks for it. See
+    /// [`read`](crate::read).
     pub fn read(&mut self, address: u8) -> Result<u8, RefusedRead> {
         operation::read(&mut self.processor, &mut self.memory[..], address)
     }

@@ -1,4 +1,5 @@
-//! The rows that a draw has redrawn, so that a host can push those rows to its screen and no others.
+//! The rows that a draw has redrawn, so that a host can push those rows to its screen and no
+//! others.
 
 use crate::size::{PICTURE_BYTES, ROWS, ROW_BYTES};
 

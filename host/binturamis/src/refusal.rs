@@ -60,7 +60,8 @@ impl Refusal {
         self as u8
     }
 
-    /// The refusal of a number; none for 0, which is no refusal, and for a number that there is not.
+    /// The refusal of a number; none for 0, which is no refusal, and for a number that there is
+    /// not.
     pub fn of_number(number: u8) -> Option<Refusal> {
         let mut all = Refusal::ALL.into_iter();
         all.find(|refusal| refusal.number() == number)

@@ -1,5 +1,5 @@
-//! The program `bridge`, which carries out calls where the library cannot be linked: it greets, ends
-//! with its input, and says what is wrong with a request before it ends.
+//! The program `bridge`, which carries out calls where the library cannot be linked: it greets,
+//! ends with its input, and says what is wrong with a request before it ends.
 #![cfg(not(target_arch = "x86_64"))]
 
 use std::io::Write;
@@ -29,7 +29,8 @@ fn power_up() -> Vec<u8> {
     [&b"P\0\0"[..], &[0; 64]].concat()
 }
 
-/// A phase change with a memory of this length, in which so many bytes are replaced from a start on.
+/// A phase change with a memory of this length, in which so many bytes are replaced from a start
+/// on.
 fn turn(length: u64, start: u64, count: u64) -> Vec<u8> {
     let numbers = [length, start, count].map(u64::to_le_bytes).concat();
     [&b"T\0\0"[..], &[0; 64], &numbers].concat()

@@ -1,6 +1,6 @@
-//! The C interface as C sees it: the example of `examples/` compiles without a warning, links with the
-//! archive and prints what is expected; the header is C and C++ by itself; its constants are this
-//! package's.
+//! The C interface as C sees it: the example of `examples/` compiles without a warning, links with
+//! the archive and prints what is expected; the header is C and C++ by itself; its constants are
+//! this package's.
 
 use std::fs;
 use std::path::{Path, PathBuf};

@@ -1,5 +1,5 @@
-//! Each refusal, met through the functions over borrowed slices and through a panel: its number, its
-//! words, and what is left after it.
+//! Each refusal, met through the functions over borrowed slices and through a panel: its number,
+//! its words, and what is left after it.
 
 use std::error::Error;
 

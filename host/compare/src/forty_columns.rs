@@ -1,6 +1,6 @@
-//! The application note's 40 column program as steps: the status is read before each of its writes, and
-//! the marked rows are drawn after it. What the second program answers and leaves is wanted after each
-//! operation.
+//! The application note's 40 column program as steps: the status is read before each of its writes,
+//! and the marked rows are drawn after it. What the second program answers and leaves is wanted
+//! after each operation.
 
 use second::forty_columns::program;
 use second::Operation;

@@ -2,6 +2,8 @@
 //! to what the second program answers. `drawing` redraws random pages, and `lockstep` does random
 //! sequences of operations.
 //!
+//! The same trials serve the tests of `host/binturamis`, which make them through the C interface.
+//!
 //! The proved crates are compiled for x86-64 and this library for whatever machine it runs on, so
 //! the two meet through standard input and output and not by a link.
 

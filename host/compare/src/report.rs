@@ -40,8 +40,8 @@ impl Report {
         }
     }
 
-    /// What the library answers and leaves, by the 48 bytes in which it tells its state. Of the status
-    /// LXm and LXa are kept, since a status that is not theirs fails here.
+    /// What the library answers and leaves, by the 48 bytes in which it tells its state. Of the
+    /// status LXm and LXa are kept, since a status that is not theirs fails here.
     pub fn told(answer: Answer, state: &[u8; STATE]) -> Report {
         let (lxm, lxa) = lx_bits(state[8]);
         assert_eq!(state[40..], [0; 8], "the bytes past the marks");

@@ -15,7 +15,8 @@ use crate::size::STATE_BYTES;
 use child::{Call, Child};
 
 thread_local! {
-    /// None before the first call, and after one that failed: then it is not known what the child has.
+    /// None before the first call, and after one that failed: then it is not known what the child
+    /// has.
     static CHILD: RefCell<Option<Child>> = const { RefCell::new(None) };
 }
 

@@ -108,8 +108,8 @@ impl Met {
     }
 }
 
-/// The operation once more, with everything as it was before: the answer, the 64 bytes and the buffers
-/// are the same.
+/// The operation once more, with everything as it was before: the answer, the 64 bytes and the
+/// buffers are the same.
 fn assert_once_more(told: &str, before: &mut Desk, asked: Asked, report: &Report, after: &Desk) {
     assert_eq!(before.apply(asked), *report, "{told}: another answer");
     assert!(before.processor == after.processor, "{told}: other bytes");

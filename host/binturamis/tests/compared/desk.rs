@@ -1,4 +1,5 @@
-//! The library in the place of `lockstep`: a processor with buffers of which any length can be lent.
+//! The library in the place of `lockstep`: a processor with buffers of which any length can be
+//! lent.
 
 use binturamis::Processor;
 use compare::lengths::Lengths;
