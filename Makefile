@@ -1,9 +1,10 @@
 # make panel   the program `panel` on the example of the rules
 # make library the archive and the header for C and Rust, in target/library
+# make rom     the demonstration ROM, target/demonstration.rom
 # make test    the gate: proofs, must-fail edits, programs, host tests
 # make check   the proofs alone, over what has changed
 # make format  the layout of every file
-.PHONY: panel library test check format
+.PHONY: panel library rom test check format
 
 panel: target/bin/panel
 	@cd host && cargo run --quiet --release --offline -p compare --example panel <../crates/panel/stdin
@@ -26,3 +27,8 @@ check:
 format:
 	rt fmt
 	cd host && cargo fmt
+
+rom:
+	@mkdir -p target
+	@cd host && cargo run --quiet --release --offline -p rom -- ../target/demonstration.rom
+	@echo "target/demonstration.rom is written"

@@ -1,0 +1,20 @@
+//! Builds the 6,400 bytes of a character ROM from characters drawn as text, and holds the
+//! demonstration ROM, which is drawn in the folder `roms`.
+//!
+//! A character is a heading line, which names its set, its code and what it shows, and ten lines of
+//! eight marks, `#` for foreground and `.` for background. Empty lines and lines that begin with
+//! `;` stand between characters.
+
+mod character;
+mod demonstration;
+mod fault;
+mod image;
+mod parse;
+mod set;
+
+pub use character::{Character, COLUMNS, SLICES};
+pub use demonstration::{demonstration, TEXTS};
+pub use fault::{Fault, What};
+pub use image::{build, place, ROM_BYTES};
+pub use parse::parse;
+pub use set::{Set, CODES};
