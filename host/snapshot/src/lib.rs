@@ -1,0 +1,9 @@
+//! Shows the page that register accesses draw, in the terminal and as a PNG, and holds the
+//! demonstration page: the accesses with which a plant's controller would program the chip.
+
+pub mod access;
+pub mod code;
+pub mod colour;
+pub mod panel;
+pub mod quadrichrome;
+pub mod writer;

@@ -1,0 +1,191 @@
+//! The writer's accesses, literally and by what they store, and the cells of a drawing.
+
+use binturamis::{Panel, ROM_BYTES};
+use rom::Set;
+use snapshot::access::{of_bytes, to_bytes, Access};
+use snapshot::code::{Code, Look};
+use snapshot::colour::Colour;
+use snapshot::panel::play;
+use snapshot::quadrichrome::symbols;
+use snapshot::writer::{Indirect, Writer};
+
+fn written(write: impl Fn(&mut Writer)) -> Vec<(u8, u8)> {
+    let mut writer = Writer::new();
+    write(&mut writer);
+    let accesses = writer.accesses().into_iter();
+    accesses
+        .map(|access| (access.address, access.value))
+        .collect()
+}
+
+/// A panel after some writing, all of it accepted.
+fn panel(write: impl Fn(&mut Writer)) -> Panel {
+    let mut writer = Writer::new();
+    write(&mut writer);
+    let mut panel = Panel::new([0; ROM_BYTES]);
+    let played = play(&mut panel, &writer.accesses());
+    assert_eq!(played.refused, 0, "{:?}", played.first);
+    panel
+}
+
+#[test]
+fn indirect_registers_go_through_r1() {
+    let accesses = written(|writer| {
+        writer.nop();
+        writer.indirect(Indirect::Ror, 0x08);
+        writer.indirect(Indirect::Pat, 0x4F);
+    });
+    let wanted = [
+        (0x28, 0x91),
+        (0x21, 0x08),
+        (0x28, 0x87),
+        (0x21, 0x4F),
+        (0x28, 0x83),
+    ];
+    assert_eq!(accesses, wanted);
+}
+
+#[test]
+fn every_indirect_register_gets_its_value() {
+    let state = panel(|writer| {
+        writer.indirect(Indirect::Tgs, 1);
+        writer.indirect(Indirect::Mat, 2);
+        writer.indirect(Indirect::Pat, 3);
+        writer.indirect(Indirect::Dor, 4);
+        writer.indirect(Indirect::Ror, 7);
+    })
+    .state();
+    assert_eq!(
+        (state.tgs, state.mat, state.pat, state.dor, state.ror),
+        (1, 2, 3, 4, 7)
+    );
+}
+
+#[test]
+fn cells_go_on_with_one_write_where_only_the_character_differs() {
+    let look = Look::of(Colour::White, Colour::Black);
+    let accesses = written(|writer| {
+        writer.at(1, 38);
+        writer.cell(Code::bichrome(Set::G0, 0x41, look));
+        writer.cell(Code::bichrome(Set::G0, 0x42, look));
+    });
+    let pointer = [(0x26, 8), (0x27, 38)];
+    let cells = [
+        (0x20, 0x01),
+        (0x22, 0x00),
+        (0x23, 0x70),
+        (0x29, 0x41),
+        (0x29, 0x42),
+    ];
+    assert_eq!(accesses, [&pointer[..], &cells[..]].concat());
+}
+
+#[test]
+fn cells_are_stored_where_the_page_has_them() {
+    let look = Look::of(Colour::Yellow, Colour::Blue);
+    let panel = panel(|writer| {
+        for (row, column) in [(0, 0), (0, 39), (1, 0), (1, 39), (24, 39)] {
+            writer.at(row, column);
+            writer.cell(Code::bichrome(Set::G0, 0x42, look.flashing()));
+        }
+    });
+    // Y 0 and X 0 and 39; Y 8, X 0 and 39; Y 31, X 39.
+    for place in [0, 39, 256, 71, 255] {
+        let memory = panel.memory();
+        let code = [0, 1024, 2048].map(|block| memory[block + place]);
+        assert_eq!(code, [0x42, 0x00, 0x3C], "place {place}");
+    }
+    assert_eq!(panel.memory().iter().filter(|byte| **byte != 0).count(), 10);
+}
+
+/// After the last column the pointer stands at the first one of the same row, and is not set anew.
+#[test]
+fn a_whole_row_ends_where_it_began() {
+    let look = Look::of(Colour::White, Colour::Black);
+    let panel = panel(|writer| {
+        writer.at(0, 0);
+        (0..40).for_each(|c| writer.cell(Code::bichrome(Set::G0, c, look)));
+        writer.at(0, 0);
+        writer.cell(Code::bichrome(Set::G0, 0x7F, look));
+    });
+    assert_eq!(panel.memory()[0], 0x7F);
+    assert!(panel.memory()[1..40].iter().copied().eq(1..40));
+}
+
+#[test]
+fn slices_are_stored_where_the_rules_have_them() {
+    let slices = [1, 2, 3, 4, 5, 6, 7, 8, 9, 10];
+    let memory = *panel(|writer| writer.slices(3, 0x4B, &slices)).memory();
+    assert_eq!((memory[3651], memory[3223]), (1, 10));
+    assert_eq!(memory.iter().filter(|byte| **byte != 0).count(), 10);
+    // Block 13 has Z3, Z2 and Z0 set.
+    let memory = *panel(|writer| writer.slices(13, 0x4B, &slices)).memory();
+    assert_eq!(
+        (memory[3651 + 10 * 1024], memory[3223 + 10 * 1024]),
+        (1, 10)
+    );
+}
+
+/// R6 has the main pointer's Y and the auxiliary pointer's Z3.
+#[test]
+fn the_two_pointers_do_not_disturb_each_other() {
+    let look = Look::of(Colour::White, Colour::Black);
+    let cell = Code::bichrome(Set::G0, 0x41, look);
+    let memory = *panel(|writer| {
+        writer.at(1, 0);
+        writer.slices(8, 0x20, &[0xFF; 10]);
+        writer.cell(cell);
+        writer.at(2, 0);
+        writer.slices(0, 0x7F, &[0xEE; 10]);
+    })
+    .memory();
+    assert_eq!(memory[256], 0x41);
+    assert_eq!(memory[8 * 1024 + 256], 0xFF);
+    assert_eq!(memory[32 * 31 + 3], 0xEE);
+}
+
+#[test]
+fn codes_have_the_bits_of_the_rules() {
+    let look = Look::of(Colour::Red, Colour::Cyan);
+    let code = |set, look| Code::bichrome(set, 0x21, look);
+    let wanted = |b, a| Code { c: 0x21, b, a };
+    assert_eq!(code(Set::G0, look), wanted(0x00, 0x16));
+    assert_eq!(code(Set::G0, look.underlined()), wanted(0x10, 0x16));
+    assert_eq!(code(Set::G10, look), wanted(0x20, 0x16));
+    assert_eq!(code(Set::G11, look), wanted(0x30, 0x16));
+    assert_eq!(code(Set::G20, look), wanted(0x40, 0x16));
+    assert_eq!(code(Set::G21, look.underlined()), wanted(0x70, 0x16));
+    assert_eq!(code(Set::G0, look.wide()), wanted(0x08, 0x16));
+    assert_eq!(code(Set::G0, look.tall()), wanted(0x02, 0x16));
+    assert_eq!(code(Set::G0, look.flashing()), wanted(0x00, 0x1E));
+    assert_eq!(Code::quadrichrome(3, 0x21, 0x5A), wanted(0xD8, 0x5A));
+}
+
+#[test]
+fn a_drawing_becomes_palettes_and_ranks() {
+    let drawing = format!("....rybc\n{}", "....rrrr\n".repeat(9));
+    let symbols = symbols(&drawing).expect("a right drawing");
+    assert_eq!(symbols.len(), 1, "the black cell is left out");
+    assert_eq!((symbols[0].row, symbols[0].column), (0, 1));
+    assert_eq!(symbols[0].palette, 0x5A);
+    assert_eq!(symbols[0].slices, [0xE4, 0, 0, 0, 0, 0, 0, 0, 0, 0]);
+}
+
+#[test]
+fn a_wrong_drawing_is_told() {
+    let told = |drawing: &str| symbols(drawing).expect_err("a wrong drawing");
+    assert!(told("rgyb\nm").contains("differ in length"));
+    assert!(told("rgyb\n").contains("4 dots by 10 lines"));
+    assert!(told("rgx.\n").contains("`x` is no colour"));
+    let five = format!("rgyb\n{}", "cccc\n".repeat(9));
+    assert!(told(&five).contains("row 0, column 0 has more than four colours"));
+}
+
+#[test]
+fn recorded_accesses_are_pairs_of_bytes() {
+    let accesses = [(0x21, 0x08), (0x28, 0x87)].map(|(address, value)| Access { address, value });
+    assert_eq!(to_bytes(&accesses), [0x21, 0x08, 0x28, 0x87]);
+    assert_eq!(of_bytes(&[0x21, 0x08, 0x28, 0x87]), accesses);
+    assert_eq!(of_bytes(&[0x21, 0x08, 0x28]), accesses[..1]);
+    assert_eq!(of_bytes(&[]), []);
+}
