@@ -4,6 +4,9 @@
 pub mod access;
 pub mod code;
 pub mod colour;
+pub mod demonstration;
 pub mod panel;
+pub mod png;
 pub mod quadrichrome;
+pub mod raster;
 pub mod writer;
