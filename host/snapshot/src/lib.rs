@@ -9,4 +9,6 @@ pub mod panel;
 pub mod png;
 pub mod quadrichrome;
 pub mod raster;
+pub mod shown;
+pub mod terminal;
 pub mod writer;
