@@ -1,10 +1,11 @@
 # make panel   the program `panel` on the example of the rules
 # make library the archive and the header for C and Rust, in target/library
 # make rom     the demonstration ROM, target/demonstration.rom
+# make demo    a plant's page, drawn by the library: shown here, and as target/demo.png; PHASE=1 hides what flashes
 # make test    the gate: proofs, must-fail edits, programs, host tests
 # make check   the proofs alone, over what has changed
 # make format  the layout of every file
-.PHONY: panel library rom test check format
+.PHONY: panel library rom demo test check format
 
 panel: target/bin/panel
 	@cd host && cargo run --quiet --release --offline -p compare --example panel <../crates/panel/stdin
@@ -32,3 +33,11 @@ rom:
 	@mkdir -p target
 	@cd host && cargo run --quiet --release --offline -p rom -- ../target/demonstration.rom
 	@echo "target/demonstration.rom is written"
+
+PHASE = 0
+SNAPSHOT = cargo run --quiet --release --offline -p snapshot
+
+demo: library
+	@cd host && $(SNAPSHOT) --bin demonstration >../target/demo.accesses
+	@cd host && $(SNAPSHOT) --bin snapshot -- ../target/demo.accesses --png ../target/demo.png --phase $(PHASE)
+	@echo "target/demo.png is the whole picture, target/demo.accesses the register accesses that draw it"

@@ -2,6 +2,7 @@
 //! demonstration page: the accesses with which a plant's controller would program the chip.
 
 pub mod access;
+pub mod arguments;
 pub mod code;
 pub mod colour;
 pub mod demonstration;

@@ -1,0 +1,274 @@
+//! The program `snapshot`: what it shows and writes, what it says, and what it ends with.
+
+mod reading;
+
+use std::fs;
+use std::io::Write;
+use std::path::{Path, PathBuf};
+use std::process::{Command, Output, Stdio};
+
+use snapshot::access::to_bytes;
+use snapshot::demonstration::page;
+use snapshot::terminal::{allows_colour, of_size};
+
+/// The example of the rules: a user slice 52 hex in the first cell of row 1.
+const EXAMPLE: [u8; 28] = [
+    0x21, 0x08, 0x28, 0x87, 0x21, 0x03, 0x28, 0x84, 0x26, 0x00, 0x27, 0xC0, 0x20, 0x30, 0x29, 0x52,
+    0x20, 0x00, 0x26, 0x08, 0x27, 0x00, 0x22, 0x80, 0x23, 0x70, 0x29, 0x00,
+];
+
+/// A file of this test in the folder that cargo keeps for tests.
+fn file(name: &str) -> PathBuf {
+    PathBuf::from(env!("CARGO_TARGET_TMPDIR")).join(format!("snapshot-{name}"))
+}
+
+fn with(name: &str, bytes: &[u8]) -> PathBuf {
+    let file = file(name);
+    fs::write(&file, bytes).expect("a file");
+    file
+}
+
+fn command() -> Command {
+    let mut command = Command::new(env!("CARGO_BIN_EXE_snapshot"));
+    command.env_remove("COLUMNS").stdin(Stdio::null());
+    command
+}
+
+/// Runs it with words that are flags or files.
+fn run(words: &[&Path]) -> Output {
+    command().args(words).output().expect("the program runs")
+}
+
+fn path(word: &str) -> &Path {
+    Path::new(word)
+}
+
+fn told(output: &Output) -> String {
+    String::from_utf8_lossy(&output.stderr).to_string()
+}
+
+fn printed(output: &Output) -> String {
+    String::from_utf8_lossy(&output.stdout).to_string()
+}
+
+fn assert_fails(output: &Output, exit: i32, message: &str) {
+    assert_eq!(output.status.code(), Some(exit), "{}", told(output));
+    assert!(told(output).contains(message), "{}", told(output));
+    assert!(output.stdout.is_empty());
+}
+
+#[test]
+fn the_example_of_the_rules_is_written_as_a_png() {
+    let accesses = with("example", &EXAMPLE);
+    let png = file("example.png");
+    let output = run(&[&accesses, path("--png"), &png]);
+    assert!(output.status.success(), "{}", told(&output));
+    let read = reading::png::read(&fs::read(png).expect("it was written")).expect("a right PNG");
+    let line = &read.pixels[10 * 320..11 * 320];
+    assert_eq!(line[..8], [0, 7, 0, 0, 7, 0, 7, 0]);
+    assert!(line[8..].iter().all(|number| *number == 0));
+}
+
+#[test]
+fn standard_input_is_read_where_the_file_is_a_dash() {
+    let mut child = command()
+        .arg("-")
+        .stdin(Stdio::piped())
+        .stdout(Stdio::piped())
+        .stderr(Stdio::piped())
+        .spawn()
+        .expect("the program runs");
+    let mut input = child.stdin.take().expect("a pipe");
+    input.write_all(&EXAMPLE).expect("it reads");
+    drop(input);
+    let output = child.wait_with_output().expect("it ends");
+    assert!(output.status.success(), "{}", told(&output));
+    // The last line of the service row is nothing, and the next is the slice.
+    assert_eq!(printed(&output).lines().nth(5), Some("▝ ▘▘"));
+}
+
+#[test]
+fn the_rom_is_the_users_if_given() {
+    // Character 41 hex of G0 in the first cell of the service row.
+    let bytes = [0x21, 0x08, 0x28, 0x87, 0x20, 0x00, 0x23, 0x70, 0x29, 0x41];
+    let accesses = with("letter", &bytes);
+    let first = |output: &Output| printed(output).lines().next().map(str::to_string);
+    assert_eq!(first(&run(&[&accesses])), Some("▗▄▖".to_string()));
+    let mut rom = vec![0; 6_400];
+    rom[650] = 0x81;
+    let rom = with("own.rom", &rom);
+    let output = run(&[&accesses, path("--rom"), &rom]);
+    assert_eq!(first(&output), Some("▘  ▝".to_string()));
+}
+
+#[test]
+fn the_phase_hides_what_flashes() {
+    let accesses = with("demonstration", &to_bytes(&page()));
+    let shown = printed(&run(&[&accesses]));
+    let again = printed(&run(&[&accesses, path("--phase"), path("0")]));
+    let hidden = printed(&run(&[&accesses, path("--phase"), path("1")]));
+    assert_eq!(shown, again);
+    let differ = |(line, pair): (usize, (&str, &str))| (pair.0 != pair.1).then_some(line);
+    let pairs = shown.lines().zip(hidden.lines()).enumerate();
+    let lines: Vec<usize> = pairs.filter_map(differ).collect();
+    assert!(!lines.is_empty());
+    // Five lines of text for a row: rows 20 and 21.
+    assert!(
+        lines.iter().all(|line| (100..110).contains(line)),
+        "{lines:?}"
+    );
+}
+
+#[test]
+fn colour_is_written_where_it_is_asked_for() {
+    let accesses = with("coloured", &EXAMPLE);
+    let run = |flag: &str| printed(&run(&[&accesses, path(flag)]));
+    assert!(run("--colour").contains("\x1b[38;5;"));
+    assert!(!run("--plain").contains('\x1b'));
+    // Standard output is no terminal here.
+    let output = command().arg(&accesses).env("TERM", "xterm").output();
+    assert!(!printed(&output.expect("it runs")).contains('\x1b'));
+}
+
+#[test]
+fn colour_is_the_terminals_unless_it_is_not_wanted() {
+    assert!(allows_colour("xterm-256color", ""));
+    assert!(!allows_colour("dumb", ""));
+    assert!(!allows_colour("", ""));
+    assert!(!allows_colour("xterm-256color", "1"));
+}
+
+#[test]
+fn the_width_is_the_one_told() {
+    assert_eq!(of_size("24 80\n"), Some(80));
+    assert_eq!(of_size("0 0\n"), None);
+    assert_eq!(of_size(""), None);
+    let accesses = with("wide", &EXAMPLE);
+    for (columns, note) in [
+        ("320", "in 320 columns"),
+        ("80", "in 80 columns"),
+        ("none", "in 160 columns"),
+        ("0", "in 160 columns"),
+    ] {
+        let output = command().arg(&accesses).env("COLUMNS", columns).output();
+        assert!(told(&output.expect("it runs")).contains(note));
+    }
+}
+
+#[test]
+fn refused_accesses_are_told_and_do_not_stop_it() {
+    // A command that is not listed and an address that is not ours, before the example.
+    let mut bytes = vec![0x21, 0x00, 0x28, 0x55, 0x31, 0x00];
+    bytes.extend(EXAMPLE);
+    let output = run(&[&with("refused", &bytes)]);
+    assert!(output.status.success());
+    let first = "2 of 17 accesses refused, the first of them access 2, at byte 2, \
+                 the value 55 to the address 28: refusal 3: a command to execute is not listed";
+    assert!(told(&output).contains(first), "{}", told(&output));
+    assert_eq!(printed(&output).lines().nth(5), Some("▝ ▘▘"));
+}
+
+#[test]
+fn an_odd_last_byte_is_told_and_ignored() {
+    let mut bytes = EXAMPLE.to_vec();
+    bytes.push(0x21);
+    let output = run(&[&with("odd", &bytes)]);
+    assert!(output.status.success());
+    assert!(told(&output).contains("the last byte has no partner and is ignored"));
+    assert!(!told(&output).contains("refused"));
+}
+
+#[test]
+fn a_refused_draw_is_told_and_writes_nothing() {
+    let png = file("never.png");
+    let output = run(&[&with("empty", &[]), path("--png"), &png]);
+    assert_fails(
+        &output,
+        3,
+        "the page cannot be drawn: refusal 8: origin YOR below 8",
+    );
+    assert!(!png.exists());
+    let bytes = [0x21, 0x08, 0x28, 0x87, 0x21, 0xC0, 0x28, 0x81];
+    let output = run(&[&with("eighty", &bytes)]);
+    assert_fails(
+        &output,
+        3,
+        "refusal 7: TGS bits 7, 6 or 5, or PAT bit 7, not zero",
+    );
+}
+
+#[test]
+fn a_file_that_cannot_be_read_is_told() {
+    let output = run(&[path("no-such-file")]);
+    assert_fails(&output, 1, "no-such-file cannot be read");
+    let output = run(&[path(env!("CARGO_TARGET_TMPDIR"))]);
+    assert_fails(&output, 1, "cannot be read");
+    let accesses = with("readable", &EXAMPLE);
+    let output = run(&[&accesses, path("--rom"), path("no-such-rom")]);
+    assert_fails(&output, 1, "no-such-rom cannot be read");
+}
+
+#[test]
+fn a_rom_of_a_wrong_length_is_told() {
+    let accesses = with("right", &EXAMPLE);
+    for length in [0, 6_399, 6_401] {
+        let rom = with("wrong.rom", &vec![0; length]);
+        let output = run(&[&accesses, path("--rom"), &rom]);
+        let message = format!("wrong.rom has {length} bytes, and a ROM has 6400");
+        assert_fails(&output, 1, &message);
+    }
+}
+
+#[test]
+fn a_png_that_cannot_be_written_is_told() {
+    let accesses = with("unwritten", &EXAMPLE);
+    let png = file("no-such-folder").join("some.png");
+    let output = run(&[&accesses, path("--png"), &png]);
+    assert_fails(&output, 1, "some.png cannot be written");
+}
+
+#[test]
+fn a_wrong_command_line_is_told() {
+    for (words, message) in [
+        (&[][..], "the file of accesses is not named"),
+        (&["a", "b"], "the file of accesses is given twice"),
+        (&["a", "--fast"], "there is no flag --fast"),
+        (&["a", "--phase", "2"], "the phase is 0 or 1, and not 2"),
+        (&["a", "--phase"], "--phase is the last word"),
+        (&["a", "--rom"], "--rom is the last word"),
+        (&["a", "--png", "b", "--png", "c"], "--png is given twice"),
+        (
+            &["a", "--plain", "--colour"],
+            "--plain or --colour is given twice",
+        ),
+    ] {
+        let words: Vec<&Path> = words.iter().map(|word| path(word)).collect();
+        let output = run(&words);
+        assert_fails(&output, 2, message);
+        assert!(told(&output).contains("snapshot --help"));
+    }
+}
+
+#[test]
+fn help_is_printed() {
+    let output = run(&[path("--help")]);
+    assert!(output.status.success());
+    for flag in ["--rom", "--png", "--phase", "--plain", "--colour", "--help"] {
+        assert!(printed(&output).contains(flag));
+    }
+}
+
+/// What reads the text may have seen enough.
+#[test]
+fn a_closed_standard_output_is_no_failure() {
+    let mut child = command()
+        .arg(with("closed", &to_bytes(&page())))
+        .arg("--colour")
+        .stdout(Stdio::piped())
+        .stderr(Stdio::piped())
+        .spawn()
+        .expect("the program runs");
+    drop(child.stdout.take());
+    let output = child.wait_with_output().expect("it ends");
+    assert!(output.status.success(), "{}", told(&output));
+}
