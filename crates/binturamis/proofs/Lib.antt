@@ -1,0 +1,4 @@
+pub mod Parts
+pub mod Layouts
+pub mod Accesses
+pub mod Calls

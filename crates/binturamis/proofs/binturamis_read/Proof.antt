@@ -1,0 +1,65 @@
+use Rattle.processor.specs.Access.{readOut}
+use Rattle.binturamis.proofs.Calls.{call-made}
+use Rattle.binturamis.proofs.Accesses.{plain-read-made}
+use borrow.Author.Needs.{needs}
+use Rattle.binturamis.proofs.binturamis_read.Statement.{statement}
+use Rattle.binturamis.proofs.binturamis_read.Tie as tie
+
+unpacked-requires : tie.Need-unpacked-requires
+unpacked-requires c κs = search needs
+
+is-plain-requires : tie.Need-is-plain-requires
+is-plain-requires c κs = search needs
+
+packed-requires : tie.Need-packed-requires
+packed-requires c κs = search needs
+
+register-requires : tie.Need-register-requires
+register-requires c κs = search needs
+
+cast-result : tie.Need-cast-result
+cast-result c = search needs
+
+returns : tie.Need-returns
+returns c = let k = c .before in
+    let i = k .before .before in
+    let u = i .before in
+    let a = u .before .before .before .args in
+    plain-read-made (a .address) (a .memory .now) (i .is-plain .result) (i .is-plain .ensures) (k .before .if1 .taken) (a .p .now) _ _ _
+    (u .unpacked .ensures) (k .packed .ensures) (c .register .ensures)
+
+read-requires : tie.Need-read-requires
+read-requires c κs = search needs
+
+packed-requires-2 : tie.Need-packed-requires-2
+packed-requires-2 c κs = search needs
+
+word-requires : tie.Need-word-requires
+word-requires c κs = search needs
+
+same-length : tie.Need-same-length
+same-length c = search needs
+
+returns-2 : tie.Need-returns-2
+returns-2 c = let k = c .before in
+    let w = k .before .before .before .before in
+    let u = w .before .before .before .before in
+    let a = u .before .before .before .args in
+    call-made (readOut (a .address)) (a .p .now) (a .memory .now) _ (w .read .result) (w .read .last .1 .0) _ _
+    (u .unpacked .ensures) (w .read .ensures) (k .packed2 .ensures) (c .word .ensures)
+
+pub binturamis-read-spec : {M : Type 1} → statement M
+binturamis-read-spec =
+    tie.close
+    (tie.spec
+    unpacked-requires
+    is-plain-requires
+    packed-requires
+    register-requires
+    cast-result
+    returns
+    read-requires
+    packed-requires-2
+    word-requires
+    same-length
+    returns-2)

@@ -1,0 +1,29 @@
+use Rattle.processor.specs.Access.{turned}
+use Rattle.binturamis.proofs.Calls.{call-made}
+use borrow.Author.Needs.{needs}
+use Rattle.binturamis.proofs.binturamis_turn.Statement.{statement}
+use Rattle.binturamis.proofs.binturamis_turn.Tie as tie
+
+unpacked-requires : tie.Need-unpacked-requires
+unpacked-requires c κs = search needs
+
+turn-requires : tie.Need-turn-requires
+turn-requires c κs = search needs
+
+packed-requires : tie.Need-packed-requires
+packed-requires c κs = search needs
+
+word-requires : tie.Need-word-requires
+word-requires c κs = search needs
+
+returns : tie.Need-returns
+returns c = let k = c .before in
+    let w = k .before .before in
+    let u = w .before in
+    let a = u .before .before .before .args in
+    call-made (turned (a .phase)) (a .p .now) (a .memory .now) _ (w .turn .result) (a .memory .now) _ _
+    (u .unpacked .ensures) (w .turn .ensures) (k .packed .ensures) (c .word .ensures)
+
+pub binturamis-turn-spec : {M : Type 1} → statement M
+binturamis-turn-spec =
+    tie.close (tie.spec unpacked-requires turn-requires packed-requires word-requires returns)

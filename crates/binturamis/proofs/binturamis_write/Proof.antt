@@ -1,0 +1,69 @@
+use Rattle.processor.specs.Access.{written}
+use Rattle.binturamis.proofs.Calls.{call-made}
+use Rattle.binturamis.proofs.Accesses.{plain-write-made}
+use borrow.Author.Needs.{needs}
+use Rattle.binturamis.proofs.binturamis_write.Statement.{statement}
+use Rattle.binturamis.proofs.binturamis_write.Tie as tie
+
+is-plain-requires : tie.Need-is-plain-requires
+is-plain-requires c κs = search needs
+
+cast-n : tie.Need-cast-n
+cast-n c = search needs
+
+element-write-p : tie.Need-element-write-p
+element-write-p c = search needs
+
+unpacked-requires : tie.Need-unpacked-requires
+unpacked-requires c κs = search needs
+
+packed-requires : tie.Need-packed-requires
+packed-requires c κs = search needs
+
+returns : tie.Need-returns
+returns c = let u = c .before in
+    let t = u .before .before in
+    let i = t .before in
+    let a = i .before .before .args in
+    plain-write-made (a .address) (a .memory .now) (i .is-plain .result) (i .is-plain .ensures) (t .if1 .taken) (a .value) (a .p .now) _ _
+    (u .unpacked .ensures) (c .packed .ensures)
+
+unpacked-requires-2 : tie.Need-unpacked-requires-2
+unpacked-requires-2 c κs = search needs
+
+write-requires : tie.Need-write-requires
+write-requires c κs = search needs
+
+packed-requires-2 : tie.Need-packed-requires-2
+packed-requires-2 c κs = search needs
+
+word-requires : tie.Need-word-requires
+word-requires c κs = search needs
+
+same-length : tie.Need-same-length
+same-length c = search needs
+
+returns-2 : tie.Need-returns-2
+returns-2 c = let k = c .before in
+    let w = k .before .before .before .before in
+    let u = w .before .before in
+    let a = u .before .before .before .before .before .args in
+    call-made (written (a .address) (a .value)) (a .p .now) (a .memory .now) _ (w .write .result) (w .write .last .1 .0) _ _
+    (u .unpacked2 .ensures) (w .write .ensures) (k .packed2 .ensures) (c .word .ensures)
+
+pub binturamis-write-spec : {M : Type 1} → statement M
+binturamis-write-spec =
+    tie.close
+    (tie.spec
+    is-plain-requires
+    cast-n
+    element-write-p
+    unpacked-requires
+    packed-requires
+    returns
+    unpacked-requires-2
+    write-requires
+    packed-requires-2
+    word-requires
+    same-length
+    returns-2)

@@ -1,0 +1,16 @@
+// Accesses that only a register takes part in. They are told apart because the call that runs commands hands the whole state over and
+// back, which costs more than all the rest of such an access.
+ghost use mathlib.Core.Path.{_≡_};
+ghost use mathlib.Core.Bool.{_&&_};
+ghost use Prim.Native.Nat.{_/_};
+ghost use lib.Dec.{eqb};
+
+// 4 times 8 is 2 in the address's high four bits with bit 3, which asks for execution, clear.
+pub fn is_plain(memory: usize, address: u8) -> bool
+    ensures { λ r. ⌜ r ≡ (eqb memory 16384 && eqb (address / 8) 4) ⌝ }
+{
+    if memory == 16384 {
+        return address / 8 == 4;
+    }
+    false
+}

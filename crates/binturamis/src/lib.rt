@@ -1,0 +1,102 @@
+// The C interface: the processor's operations on 64 bytes that the caller keeps. Each unpacks the bytes, does the operation and packs
+// what it leaves, so that any 64 bytes get an answer; those of a power-up or of an earlier call mean the processor that it left.
+ghost use mathlib.Core.Path.{_≡_};
+ghost use Rattle.processor.specs.States.{kept, powerUp};
+ghost use Rattle.processor.specs.Access.{written, readOut, turned};
+ghost use Rattle.processor.specs.Draws.{drawn};
+ghost use Rattle.binturamis.specs.Layouts.{packed, unpacked};
+ghost use Rattle.binturamis.specs.Reports.{reported};
+ghost use Rattle.binturamis.specs.Calls.{called, callOf, drawCalled, drawCallOf};
+
+mod access;
+mod layout;
+mod part;
+mod report;
+mod word;
+
+use access::is_plain;
+use layout::packed;
+use layout::unpacked;
+use processor::state::Processor;
+use report::reported;
+use word::draw_word;
+use word::word;
+
+#[no_mangle]
+pub extern "C" fn binturamis_power_up(p: &mut [u8; 64])
+    ensures { λ r. ⌜ now (p .exit) ≡ packed powerUp ⌝ }
+{
+    *p = packed(Processor::power_up());
+}
+
+#[no_mangle]
+pub extern "C" fn binturamis_write(
+    p: &mut [u8; 64],
+    memory: &mut [u8],
+    address: u8,
+    value: u8,
+) -> u32
+    ensures { λ r. ⌜ called (now (p .exit)) (now (memory .exit)) r ≡ callOf (written address value (kept (unpacked (now (p .entry))) (now (memory .entry)))) ⌝ }
+{
+    if is_plain(memory.len(), address) {
+        let n = (address % 8) as usize;
+        p[n] = value;
+        *p = packed(unpacked(*p));
+        return 0;
+    }
+    let answered = unpacked(*p).write(memory, address, value);
+    let next = answered.processor;
+    let answer = answered.answer;
+    *p = packed(next);
+    word(answer)
+}
+
+#[no_mangle]
+pub extern "C" fn binturamis_read(p: &mut [u8; 64], memory: &mut [u8], address: u8) -> u32
+    ensures { λ r. ⌜ called (now (p .exit)) (now (memory .exit)) r ≡ callOf (readOut address (kept (unpacked (now (p .entry))) (now (memory .entry)))) ⌝ }
+{
+    let before = unpacked(*p);
+    if is_plain(memory.len(), address) {
+        *p = packed(before);
+        return before.register(address % 8) as u32;
+    }
+    let answered = before.read(memory, address);
+    let next = answered.processor;
+    let answer = answered.answer;
+    *p = packed(next);
+    word(answer)
+}
+
+#[no_mangle]
+pub extern "C" fn binturamis_turn(p: &mut [u8; 64], memory: &[u8], phase: u8) -> u32
+    ensures { λ r. ⌜ called (now (p .exit)) (now (memory .entry)) r ≡ callOf (turned phase (kept (unpacked (now (p .entry))) (now (memory .entry)))) ⌝ }
+{
+    let answered = unpacked(*p).turn(memory, phase);
+    let next = answered.processor;
+    let answer = answered.answer;
+    *p = packed(next);
+    word(answer)
+}
+
+#[no_mangle]
+pub extern "C" fn binturamis_draw(
+    p: &mut [u8; 64],
+    memory: &[u8],
+    rom: &[u8],
+    picture: &mut [u8],
+) -> u32
+    ensures { λ r. ⌜ drawCalled (now (p .exit)) (now (picture .exit)) r ≡ drawCallOf (drawn (unpacked (now (p .entry))) (now (memory .entry)) (now (rom .entry)) (now (picture .entry))) ⌝ }
+{
+    let answered = unpacked(*p).draw(memory, rom, picture);
+    let next = answered.processor;
+    let answer = answered.answer;
+    *p = packed(next);
+    draw_word(answer)
+}
+
+#[no_mangle]
+pub extern "C" fn binturamis_state(p: &[u8; 64], out: &mut [u8; 48])
+    ensures { λ r. ⌜ now (out .exit) ≡ reported (unpacked (now (p .entry))) ⌝ }
+{
+    *out = reported(unpacked(*p));
+}

@@ -1,0 +1,24 @@
+// An answer as one number.
+ghost use mathlib.Core.Path.{_≡_};
+ghost use Prim.Native.Nat.{_≤_};
+ghost use Rattle.processor.specs.Answers.{numberOf, valueOf, drawNumberOf, rowsOf};
+ghost use Rattle.binturamis.specs.Calls.{word};
+use processor::answer::Answer;
+use processor::answer::Drawing;
+
+pub fn word(answer: Answer) -> u32
+    ensures { λ r. ⌜ r ≡ word (numberOf answer) (valueOf answer) ⌝ }
+{
+    let number = answer.number();
+    let value = answer.value();
+    256 * (number as u32) + value as u32
+}
+
+pub fn draw_word(answer: Drawing) -> u32
+    requires { ⌜ rowsOf answer ≤ 25 ⌝ }
+    ensures { λ r. ⌜ r ≡ word (drawNumberOf answer) (rowsOf answer) ⌝ }
+{
+    let number = answer.number();
+    let rows = answer.rows();
+    256 * (number as u32) + rows as u32
+}
