@@ -1,3 +1,4 @@
 pub mod Layouts
 pub mod Reports
 pub mod Calls
+pub mod Runs

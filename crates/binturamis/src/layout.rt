@@ -24,8 +24,9 @@ pub fn unpacked(bytes: [u8; 64]) -> Processor
     }
 }
 
+// Whatever the processor, its bytes unpack to it.
 pub fn packed(p: Processor) -> [u8; 64]
-    ensures { λ r. ⌜ r ≡ packed p ⌝ }
+    ensures { λ r. ⌜ (r ≡ packed p) × (unpacked r ≡ p) ⌝ }
 {
     let mut bytes = [0u8; 64];
     bytes[16] = flag(p.lxm);

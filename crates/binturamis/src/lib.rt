@@ -10,6 +10,7 @@ ghost use Rattle.binturamis.specs.Calls.{called, callOf, drawCalled, dra
 
 mod access;
 mod layout;
+mod leave;
 mod part;
 mod report;
 mod word;
@@ -17,10 +18,10 @@ mod word;
 use access::is_plain;
 use layout::packed;
 use layout::unpacked;
+use leave::leave;
+use leave::leave_drawn;
 use processor::state::Processor;
 use report::reported;
-use word::draw_word;
-use word::word;
 
 #[no_mangle]
 pub extern "C" fn binturamis_power_up(p: &mut [u8; 64])
@@ -45,10 +46,7 @@ pub extern "C" fn binturamis_write(
         return 0;
     }
     let answered = unpacked(*p).write(memory, address, value);
-    let next = answered.processor;
-    let answer = answered.answer;
-    *p = packed(next);
-    word(answer)
+    leave(p, answered)
 }
 
 #[no_mangle]
@@ -61,10 +59,7 @@ pub extern "C" fn binturamis_read(p: &mut [u8; 64], memory: &mut [u8], address: 
         return before.register(address % 8) as u32;
     }
     let answered = before.read(memory, address);
-    let next = answered.processor;
-    let answer = answered.answer;
-    *p = packed(next);
-    word(answer)
+    leave(p, answered)
 }
 
 #[no_mangle]
@@ -72,10 +67,7 @@ pub extern "C" fn binturamis_turn(p: &mut [u8; 64], memory: &[u8], phase: u8) ->
     ensures { λ r. ⌜ called (now (p .exit)) (now (memory .entry)) r ≡ callOf (turned phase (kept (unpacked (now (p .entry))) (now (memory .entry)))) ⌝ }
 {
     let answered = unpacked(*p).turn(memory, phase);
-    let next = answered.processor;
-    let answer = answered.answer;
-    *p = packed(next);
-    word(answer)
+    leave(p, answered)
 }
 
 #[no_mangle]
@@ -87,11 +79,8 @@ pub extern "C" fn binturamis_draw(
 ) -> u32
     ensures { λ r. ⌜ drawCalled (now (p .exit)) (now (picture .exit)) r ≡ drawCallOf (drawn (unpacked (now (p .entry))) (now (memory .entry)) (now (rom .entry)) (now (picture .entry))) ⌝ }
 {
-    let answered = unpacked(*p).draw(memory, rom, picture);
-    let next = answered.processor;
-    let answer = answered.answer;
-    *p = packed(next);
-    draw_word(answer)
+    let drawn = unpacked(*p).draw(memory, rom, picture);
+    leave_drawn(p, drawn)
 }
 
 #[no_mangle]

@@ -11,7 +11,7 @@ packed-requires : tie.Need-packed-requires
 packed-requires c κs = search needs
 
 returns : tie.Need-returns
-returns c = c .packed .ensures ∙ ap packed (c .before .power-up .ensures)
+returns c = c .packed .ensures .0 ∙ ap packed (c .before .power-up .ensures)
 
 pub binturamis-power-up-spec : {M : Type 1} → statement M
 binturamis-power-up-spec = tie.close (tie.spec power-up-requires packed-requires returns)

@@ -26,27 +26,23 @@ returns c = let k = c .before in
     let u = i .before in
     let a = u .before .before .before .args in
     plain-read-made (a .address) (a .memory .now) (i .is-plain .result) (i .is-plain .ensures) (k .before .if1 .taken) (a .p .now) _ _ _
-    (u .unpacked .ensures) (k .packed .ensures) (c .register .ensures)
+    (u .unpacked .ensures) (k .packed .ensures .0) (c .register .ensures)
 
 read-requires : tie.Need-read-requires
 read-requires c κs = search needs
 
-packed-requires-2 : tie.Need-packed-requires-2
-packed-requires-2 c κs = search needs
-
-word-requires : tie.Need-word-requires
-word-requires c κs = search needs
+leave-requires : tie.Need-leave-requires
+leave-requires c κs = search needs
 
 same-length : tie.Need-same-length
 same-length c = search needs
 
 returns-2 : tie.Need-returns-2
-returns-2 c = let k = c .before in
-    let w = k .before .before .before .before in
+returns-2 c = let w = c .before .before .before .before in
     let u = w .before .before .before .before in
     let a = u .before .before .before .args in
     call-made (readOut (a .address)) (a .p .now) (a .memory .now) _ (w .read .result) (w .read .last .1 .0) _ _
-    (u .unpacked .ensures) (w .read .ensures) (k .packed2 .ensures) (c .word .ensures)
+    (u .unpacked .ensures) (w .read .ensures) (c .leave .ensures .0) (c .leave .ensures .1)
 
 pub binturamis-read-spec : {M : Type 1} → statement M
 binturamis-read-spec =
@@ -59,7 +55,6 @@ binturamis-read-spec =
     cast-result
     returns
     read-requires
-    packed-requires-2
-    word-requires
+    leave-requires
     same-length
     returns-2)

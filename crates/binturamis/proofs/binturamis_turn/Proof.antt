@@ -10,20 +10,15 @@ unpacked-requires c κs = search needs
 turn-requires : tie.Need-turn-requires
 turn-requires c κs = search needs
 
-packed-requires : tie.Need-packed-requires
-packed-requires c κs = search needs
-
-word-requires : tie.Need-word-requires
-word-requires c κs = search needs
+leave-requires : tie.Need-leave-requires
+leave-requires c κs = search needs
 
 returns : tie.Need-returns
-returns c = let k = c .before in
-    let w = k .before .before in
+returns c = let w = c .before .before in
     let u = w .before in
     let a = u .before .before .before .args in
     call-made (turned (a .phase)) (a .p .now) (a .memory .now) _ (w .turn .result) (a .memory .now) _ _
-    (u .unpacked .ensures) (w .turn .ensures) (k .packed .ensures) (c .word .ensures)
+    (u .unpacked .ensures) (w .turn .ensures) (c .leave .ensures .0) (c .leave .ensures .1)
 
 pub binturamis-turn-spec : {M : Type 1} → statement M
-binturamis-turn-spec =
-    tie.close (tie.spec unpacked-requires turn-requires packed-requires word-requires returns)
+binturamis-turn-spec = tie.close (tie.spec unpacked-requires turn-requires leave-requires returns)

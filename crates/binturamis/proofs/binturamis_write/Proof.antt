@@ -26,7 +26,7 @@ returns c = let u = c .before in
     let i = t .before in
     let a = i .before .before .args in
     plain-write-made (a .address) (a .memory .now) (i .is-plain .result) (i .is-plain .ensures) (t .if1 .taken) (a .value) (a .p .now) _ _
-    (u .unpacked .ensures) (c .packed .ensures)
+    (u .unpacked .ensures) (c .packed .ensures .0)
 
 unpacked-requires-2 : tie.Need-unpacked-requires-2
 unpacked-requires-2 c κs = search needs
@@ -34,22 +34,18 @@ unpacked-requires-2 c κs = search needs
 write-requires : tie.Need-write-requires
 write-requires c κs = search needs
 
-packed-requires-2 : tie.Need-packed-requires-2
-packed-requires-2 c κs = search needs
-
-word-requires : tie.Need-word-requires
-word-requires c κs = search needs
+leave-requires : tie.Need-leave-requires
+leave-requires c κs = search needs
 
 same-length : tie.Need-same-length
 same-length c = search needs
 
 returns-2 : tie.Need-returns-2
-returns-2 c = let k = c .before in
-    let w = k .before .before .before .before in
+returns-2 c = let w = c .before .before .before .before in
     let u = w .before .before in
     let a = u .before .before .before .before .before .args in
     call-made (written (a .address) (a .value)) (a .p .now) (a .memory .now) _ (w .write .result) (w .write .last .1 .0) _ _
-    (u .unpacked2 .ensures) (w .write .ensures) (k .packed2 .ensures) (c .word .ensures)
+    (u .unpacked2 .ensures) (w .write .ensures) (c .leave .ensures .0) (c .leave .ensures .1)
 
 pub binturamis-write-spec : {M : Type 1} → statement M
 binturamis-write-spec =
@@ -63,7 +59,6 @@ binturamis-write-spec =
     returns
     unpacked-requires-2
     write-requires
-    packed-requires-2
-    word-requires
+    leave-requires
     same-length
     returns-2)

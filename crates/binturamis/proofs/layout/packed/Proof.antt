@@ -1,5 +1,6 @@
-use mathlib.Core.Path.{_≡_}
-use lib.ListN.{length}
+use mathlib.Core.Path.{ap, _∙_}
+use Rattle.binturamis.specs.Layouts.{unpacked}
+use Rattle.binturamis.proofs.RoundTrip.{unpacked-packed}
 use borrow.Author.Needs.{length-unmapped}
 use Rattle.binturamis.proofs.Layouts.{packed-parts}
 use borrow.Author.Needs.{needs}
@@ -43,14 +44,17 @@ returns : tie.Need-returns
 returns c = let k = c .before in
     let e = k .before .before .before in
     let d = e .before .before .before in
-    let m = d .before .before in
-    let f = m .before .before .before in
+    let f = d .before .before .before .before .before in
     let s = f .before .before in
     let g = s .good .0 .1 .1 in
     let p = s .args .p in
-    packed-parts p (f .before .flag .result) (f .flag2 .result) (d .put-eight .last .0) (e .put-eight2 .last .0) (k .put-marks .last .0)
-    (length-unmapped _ (p .registers) 8 (g .0 .1 .0 .1)) (length-unmapped _ (p .indirect) 8 (g .1 .0 .1 .0 .1)) (length-unmapped _ (p .marks) 25 (g .1 .1 .1 .1 .1 .0 .1 .0 .1))
-    (f .before .flag .ensures) (f .flag2 .ensures) (d .put-eight .ensures) (e .put-eight2 .ensures) (k .put-marks .ensures)
+    let lr = length-unmapped _ (p .registers) 8 (g .0 .1 .0 .1) in
+    let li = length-unmapped _ (p .indirect) 8 (g .1 .0 .1 .0 .1) in
+    let lm = length-unmapped _ (p .marks) 25 (g .1 .1 .1 .1 .1 .0 .1 .0 .1) in
+    let b =
+    packed-parts p (f .before .flag .result) (f .flag2 .result) (d .put-eight .last .0) (e .put-eight2 .last .0) (k .put-marks .last .0) lr li lm
+    (f .before .flag .ensures) (f .flag2 .ensures) (d .put-eight .ensures) (e .put-eight2 .ensures) (k .put-marks .ensures) in
+    (b, ap unpacked b ∙ unpacked-packed p (lr, li, lm))
 
 pub packed-spec : {M : Type 1} → statement M
 packed-spec =

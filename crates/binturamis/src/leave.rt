@@ -1,0 +1,32 @@
+// What an operation leaves, handed to the caller: the processor in its 64 bytes, and the answer as one number.
+ghost use mathlib.Core.Path.{_≡_};
+ghost use Prim.Native.Nat.{_≤_};
+ghost use Rattle.processor.specs.Answers.{numberOf, valueOf, drawNumberOf, rowsOf};
+ghost use Rattle.binturamis.specs.Layouts.{packed};
+ghost use Rattle.binturamis.specs.Calls.{word};
+use crate::layout::packed;
+use crate::word::draw_word;
+use crate::word::word;
+use processor::draw::Drawn;
+use processor::execute::Answered;
+
+// Of an access or a phase change.
+pub fn leave(p: &mut [u8; 64], answered: Answered) -> u32
+    ensures { λ r. ⌜ (now (p .exit) ≡ packed (answered .processor)) × (r ≡ word (numberOf (answered .answer)) (valueOf (answered .answer))) ⌝ }
+{
+    let next = answered.processor;
+    let answer = answered.answer;
+    *p = packed(next);
+    word(answer)
+}
+
+// Of a draw.
+pub fn leave_drawn(p: &mut [u8; 64], drawn: Drawn) -> u32
+    requires { ⌜ rowsOf (drawn .answer) ≤ 25 ⌝ }
+    ensures { λ r. ⌜ (now (p .exit) ≡ packed (drawn .processor)) × (r ≡ word (drawNumberOf (drawn .answer)) (rowsOf (drawn .answer))) ⌝ }
+{
+    let after = drawn.processor;
+    let drawing = drawn.answer;
+    *p = packed(after);
+    draw_word(drawing)
+}
