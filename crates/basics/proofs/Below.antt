@@ -10,6 +10,10 @@ use Rattle.basics.specs.Choice.{pick, oneIf}
 use Rattle.basics.specs.Below.{anyBelow, countBelow, lastBelow}
 use Rattle.basics.proofs.Choice.{or-left, or-right, or-cases, eq-or-ne, bool-cases}
 
+one-at-most : (t : Bool) → oneIf t ≤ 1
+one-at-most true = omega arith
+one-at-most false = omega arith
+
 module _ (f : ℕ → Bool) where
   pub any-none : anyBelow f 0 ≡ false
   unfolding anyBelow
@@ -56,6 +60,11 @@ module _ (f : ℕ → Bool) where
   pub count-none : countBelow f 0 ≡ 0
   unfolding countBelow
   count-none = refl
+
+  pub count-at-most : (n : ℕ) → countBelow f n ≤ n
+  unfolding countBelow
+  count-at-most zero = omega arith
+  count-at-most (suc n) = omega (arith, count-at-most n, one-at-most (f n))
 
   pub count-step : (i : ℕ) → countBelow f (i + 1) ≡ countBelow f i + oneIf (f i)
   unfolding countBelow

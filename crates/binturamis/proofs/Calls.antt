@@ -1,14 +1,13 @@
 -- Laws of calls: a call is the outcome of its operation, packed; and a draw answers at most 25 rows.
 -- Assumes nothing.
-use Prim.Native.Nat.{ℕ, zero, suc, _≤_}
+use Prim.Native.Nat.{ℕ, _≤_}
 use mathlib.Core.Path.{_≡_, refl, sym, ap, _∙_}
 use mathlib.Core.Bool.{Bool, true, false}
 use mathlib.Core.List.{List}
 use native.Mathlib.Omega.{arith}
 use lib.Dec.{eqb}
 use lib.ListN.{length}
-use Rattle.basics.specs.Choice.{oneIf}
-use Rattle.basics.specs.Below.{countBelow}
+use Rattle.basics.proofs.Below.{count-at-most}
 use Rattle.picture.specs.Redraws.{isMarked, markedRows}
 use Rattle.reading.specs.Marks.{refused7, refused8}
 use Rattle.processor.specs.declared.state.Processor.{Processor}
@@ -36,15 +35,6 @@ pub draw-made :
 draw-made bytes m rom picture p r after b w ep er eb ew =
     rw (eb, ew) (ap drawCallOf er ∙ ap (λ (q : Processor). drawCallOf (drawn q m rom picture)) ep)
 
-one-if-low : (t : Bool) → oneIf t ≤ 1
-one-if-low true = omega arith
-one-if-low false = omega arith
-
-count-low : (f : ℕ → Bool) (n : ℕ) → countBelow f n ≤ n
-unfolding countBelow
-count-low f zero = omega arith
-count-low f (suc n) = omega (arith, count-low f n, one-if-low (f n))
-
 -- whatever the five tests of a draw say
 rows-low :
     (t1 t2 t3 t4 t5 : Bool) (p : Processor) (m rom picture : List ℕ)
@@ -56,7 +46,7 @@ rows-low true false t3 t4 t5 p m rom picture e1 e2 e3 e4 e5 = rw (e1, e2) (omega
 rows-low true true false t4 t5 p m rom picture e1 e2 e3 e4 e5 = rw (e1, e2, e3) (omega arith)
 rows-low true true true true t5 p m rom picture e1 e2 e3 e4 e5 = rw (e1, e2, e3, e4) (omega arith)
 rows-low true true true false true p m rom picture e1 e2 e3 e4 e5 = rw (e1, e2, e3, e4, e5) (omega arith)
-rows-low true true true false false p m rom picture e1 e2 e3 e4 e5 = rw (e1, e2, e3, e4, e5) (count-low (isMarked (p .marks)) 25)
+rows-low true true true false false p m rom picture e1 e2 e3 e4 e5 = rw (e1, e2, e3, e4, e5) (count-at-most (isMarked (p .marks)) 25)
 
 pub rows-few :
     (p : Processor) (r : Drawn) (m rom picture after : List ℕ) → drawOutcomeOf r after ≡ drawn p m rom picture → rowsOf (r .answer) ≤ 25

@@ -8,6 +8,7 @@ use lib.Dec.{eqb, leb}
 use lib.ListN.{length, getD, length-set}
 use Rattle.basics.specs.Bits.{bits, isSet}
 use Rattle.basics.specs.Choice.{pick}
+use Rattle.basics.proofs.Choice.{pick-either}
 use Rattle.basics.proofs.Parts.{length-table}
 use Rattle.address.specs.Triples.{legal}
 use Rattle.address.specs.declared.triple.Triple.{Triple}
@@ -25,7 +26,6 @@ use Rattle.processor.specs.Pointers.{pointerOf, incremented, incrementedIf}
 use Rattle.processor.specs.Bytes.{placeAt, stored, octet, codeRead, codeStored, code}
 use Rattle.processor.specs.Access.{Outcome, outcome, indirect, atPointer, ran, executed, checked, written, readOut, phased, turned}
 use Rattle.processor.specs.Draws.{DrawOutcome, drawOutcome, drawnPage, drawn}
-use Rattle.kept.proofs.Picks.{pick-either}
 use Rattle.kept.specs.Runs.{Operation, write, read, turn, draw, World, first, step, run}
 use Rattle.binturamis.specs.Layouts.{Sized}
 

@@ -9,7 +9,7 @@ use lib.ListN.{getD}
 use Rattle.basics.specs.Bits.{isSet}
 use Rattle.basics.specs.Parts.{table}
 use Rattle.cell.specs.Cells.{isQuadrichrome}
-use Rattle.page.specs.Codes.{codeAt}
+use Rattle.page.specs.Codes.{codeAt, rowBuffer}
 
 -- a double height cell: bichrome, with B1
 unfoldable pub isTall : List ℕ → Bool
@@ -57,6 +57,6 @@ goesOnAt here above x = goesOn (isTall (getD here x [])) (getD here x []) (getD 
 abbrev pub turnedAt : List (List ℕ) → List (List ℕ) → List Bool → ℕ → Bool
 turnedAt here above halves x = goesOnAt here above x && not (getD halves x false)
 
--- where they are known, these are the lower halves of the row above row r
-abbrev pub KnownAbove : ℕ → List ℕ → ℕ → Bool → List Bool → Type 0
-KnownAbove ror m r known halves = known ≡ true → (0 < r) × (halves ≡ lowerHalves ror m (r - 1))
+-- where they are known, these are the row buffer and the lower halves of the row above row r
+abbrev pub KnownAbove : ℕ → List ℕ → ℕ → Bool → List (List ℕ) → List Bool → Type 0
+KnownAbove ror m r known above halves = known ≡ true → (0 < r) × (above ≡ rowBuffer ror m (r - 1)) × (halves ≡ lowerHalves ror m (r - 1))

@@ -1,7 +1,6 @@
 // Which half a double height or a double width cell shows.
 ghost use mathlib.Core.Path.{_≡_};
 ghost use mathlib.Core.Bool.{not, _&&_};
-ghost use Prim.Native.Nat.{_-_, _<_};
 ghost use lib.ListN.{length};
 ghost use Rattle.basics.specs.Below.{anyBelow};
 ghost use Rattle.basics.specs.Parts.{table};
@@ -105,35 +104,21 @@ pub fn lower_halves(memory: &[u8], ror: u8, row: u8, here: [[u8; 3]; 40]) -> [bo
     [false; 40]
 }
 
-// The same where those of the row above are known already.
-fn lower_halves_below(
-    memory: &[u8],
-    ror: u8,
-    row: u8,
-    here: [[u8; 3]; 40],
-    halves: [bool; 40],
-) -> [bool; 40]
-    requires { ⌜ (length (now memory) ≡ 16384) × (here ≡ rowBuffer ror (now memory) row) × (0 < row) × (halves ≡ lowerHalves ror (now memory) (row - 1)) ⌝ }
-    ensures { λ r. ⌜ r ≡ lowerHalves ror (now (memory .entry)) row ⌝ }
-{
-    let above = row_buffer(memory, ror, row - 1);
-    turned(here, above, halves)
-}
-
-// The lower halves of a row, by one step where those of the row above are known.
+// The lower halves of a row, by one step where the row above is known with its own.
 pub fn lower_halves_after(
     memory: &[u8],
     ror: u8,
     row: u8,
     here: [[u8; 3]; 40],
     known: bool,
+    above: [[u8; 3]; 40],
     halves: [bool; 40],
 ) -> [bool; 40]
-    requires { ⌜ (length (now memory) ≡ 16384) × (here ≡ rowBuffer ror (now memory) row) × KnownAbove ror (now memory) row known halves ⌝ }
+    requires { ⌜ (length (now memory) ≡ 16384) × (here ≡ rowBuffer ror (now memory) row) × KnownAbove ror (now memory) row known above halves ⌝ }
     ensures { λ r. ⌜ r ≡ lowerHalves ror (now (memory .entry)) row ⌝ }
 {
     if known {
-        return lower_halves_below(memory, ror, row, here, halves);
+        return turned(here, above, halves);
     }
     lower_halves(memory, ror, row, here)
 }

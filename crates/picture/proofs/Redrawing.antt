@@ -16,6 +16,7 @@ use Rattle.basics.proofs.Choice.{bool-cases}
 use Rattle.basics.proofs.Below.{count-none, count-step}
 use Rattle.basics.proofs.Parts.{Each, length-joined, joined-same}
 use Rattle.basics.proofs.Filled.{filled, filled-none, filled-part, filled-keep, filled-end}
+use Rattle.page.specs.Codes.{rowBuffer}
 use Rattle.page.specs.Halves.{lowerHalves, KnownAbove}
 use Rattle.page.specs.Inputs.{CellInput}
 use Rattle.cell.specs.Pixels.{cellLine}
@@ -64,18 +65,19 @@ module _ (marks : List Bool) (picture m rom : List ℕ) (settings : Settings) wh
 
 -- the first r rows are as a redraw leaves them, the others as they were; `rows` of the r are marked; and what is known of the row above
 pub record DrawnTo
-    (marks : List Bool) (old m rom : List ℕ) (settings : Settings) (picture : List ℕ) (rows : ℕ) (known : Bool) (halves : List Bool) (r : ℕ) : Type 0 where
+    (marks : List Bool) (old m rom : List ℕ) (settings : Settings) (picture : List ℕ) (rows : ℕ) (known : Bool) (above : List (List ℕ)) (halves : List Bool)
+    (r : ℕ) : Type 0 where
   pub within : r ≤ 25
   pub few : rows ≤ r
   pub count : rows ≡ markedRows marks r
   pub was : length old ≡ 40000
   pub long : length picture ≡ 40000
   pub drawn : picture ≡ filled 1600 (rowAfter marks old m rom settings) old r
-  pub above : KnownAbove (settings .ror) m r known halves
+  pub over : KnownAbove (settings .ror) m r known above halves
 
 module _ (marks : List Bool) (old m rom : List ℕ) (settings : Settings) where
-  pub start : (halves : List Bool) → length old ≡ 40000 → DrawnTo marks old m rom settings old 0 false halves 0
-  start halves h =
+  pub start : (above : List (List ℕ)) (halves : List Bool) → length old ≡ 40000 → DrawnTo marks old m rom settings old 0 false above halves 0
+  start above halves h =
       record {
         within = omega arith;
         few = omega arith;
@@ -83,13 +85,14 @@ module _ (marks : List Bool) (old m rom : List ℕ) (settings : Settings) where
         was = h;
         long = h;
         drawn = filled-none 1600 (rowAfter marks old m rom settings) old;
-        above = λ e. absurd (false≢true e);
+        over = λ e. absurd (false≢true e);
       }
 
   module _
-      (picture : List ℕ) (rows : ℕ) (known : Bool) (halves : List Bool) (r : ℕ) (d : DrawnTo marks old m rom settings picture rows known halves r)
+      (picture : List ℕ) (rows : ℕ) (known : Bool) (above : List (List ℕ)) (halves : List Bool) (r : ℕ)
+      (d : DrawnTo marks old m rom settings picture rows known above halves r)
     where
-      pub keep : r < 25 → isMarked marks r ≡ false → DrawnTo marks old m rom settings picture rows false halves (r + 1)
+      pub keep : r < 25 → isMarked marks r ≡ false → DrawnTo marks old m rom settings picture rows false above halves (r + 1)
       keep l off =
           let more = count-step (isMarked marks) r ∙ ap (λ (b : Bool). markedRows marks r + oneIf b) off in
           record {
@@ -99,15 +102,16 @@ module _ (marks : List Bool) (old m rom : List ℕ) (settings : Settings) where
             was = d .was;
             long = d .long;
             drawn = d .drawn ∙ filled-keep 1600 (rowAfter marks old m rom settings) old r (row-kept marks old m rom settings r off);
-            above = λ e. absurd (false≢true e);
+            over = λ e. absurd (false≢true e);
           }
 
       pub drew :
-          r < 25 → isMarked marks r ≡ true → (part : List ℕ) (lowers : List Bool)
+          r < 25 → isMarked marks r ≡ true → (part : List ℕ) (cells : List (List ℕ)) (lowers : List Bool)
+          → cells ≡ rowBuffer (settings .ror) m r
           → (lowers ≡ lowerHalves (settings .ror) m r) × (part ≡ rowOf m rom settings r)
           → length part ≡ length (midOf (1600 * r) (1600 * r + 1600 - 1600 * r) picture)
-          → DrawnTo marks old m rom settings (putMid (1600 * r) (1600 * r + 1600 - 1600 * r) picture part) (rows + 1) true lowers (r + 1)
-      drew l on part lowers e k =
+          → DrawnTo marks old m rom settings (putMid (1600 * r) (1600 * r + 1600 - 1600 * r) picture part) (rows + 1) true cells lowers (r + 1)
+      drew l on part cells lowers b e k =
           let more = count-step (isMarked marks) r ∙ ap (λ (b : Bool). markedRows marks r + oneIf b) on in
           let at = 1600 * r in
           let back : r + 1 - 1 ≡ r = omega arith in
@@ -120,7 +124,7 @@ module _ (marks : List Bool) (old m rom : List ℕ) (settings : Settings) where
             drawn =
                 filled-part 1600 (rowAfter marks old m rom settings) old picture part r at (at + 1600 - at)
                 (each-after marks old m rom settings r (d .was) (d .within)) (d .drawn) (e .1 ∙ row-marked marks old m rom settings r on) refl (omega arith);
-            above = λ q. (omega arith, e .0 ∙ ap (lowerHalves (settings .ror) m) (sym back));
+            over = λ q. (omega arith, b ∙ ap (rowBuffer (settings .ror) m) (sym back), e .0 ∙ ap (lowerHalves (settings .ror) m) (sym back));
           }
 
       pub end : 25 ≤ r → (picture ≡ redrawn marks old m rom settings) × (rows ≡ markedRows marks 25)

@@ -4,8 +4,9 @@ ghost use lib.ListN.{length};
 ghost use Rattle.picture.specs.Redraws.{redrawn, markedRows};
 use crate::row::draw_row;
 use crate::settings::Settings;
+use page::code::row_buffer;
 
-// Returns the number of marked rows. The lower halves of a row that was just drawn are kept for the row below it.
+// Returns the number of marked rows. The row buffer and the lower halves of a row that was just drawn are kept for the row below it.
 pub fn redraw(
     picture: &mut [u8],
     memory: &[u8],
@@ -18,21 +19,26 @@ pub fn redraw(
 {
     let mut rows = 0;
     let mut known = false;
+    let mut above = [[0u8; 3]; 40];
     let mut halves = [false; 40];
     for r in 0..25 {
         if !marks[r] {
             known = false;
             continue;
         }
+        let cells = row_buffer(memory, settings.ror, r as u8);
         let lowers = draw_row(
             &mut picture[1600 * r..1600 * r + 1600],
             memory,
             rom,
             settings,
             r as u8,
+            cells,
             known,
+            above,
             halves,
         );
+        above = cells;
         halves = lowers;
         known = true;
         rows += 1;

@@ -2,6 +2,7 @@
 ghost use mathlib.Core.Path.{_≡_};
 ghost use lib.ListN.{length};
 ghost use Rattle.basics.specs.Parts.{joined};
+ghost use Rattle.page.specs.Codes.{rowBuffer};
 ghost use Rattle.page.specs.Halves.{lowerHalves, KnownAbove};
 ghost use Rattle.picture.specs.Lines.{lineOn};
 ghost use Rattle.picture.specs.Rows.{rowOf};
@@ -10,7 +11,6 @@ use crate::pairs::Pairs;
 use crate::pairs::pairs_of;
 use crate::settings::Settings;
 use crate::ten::tens_of;
-use page::code::row_buffer;
 use page::half::lower_halves_after;
 use page::half::right_halves;
 
@@ -44,22 +44,23 @@ fn draw_lines(
     }
 }
 
-// Screen row `row`, in its part of the picture. The lower halves of the row above are handed in where they are known, and those of
-// this row handed back.
+// Screen row `row`, in its part of the picture, from its row buffer. The row above is handed in with its lower halves where they are
+// known, and those of this row are handed back.
 pub fn draw_row(
     part: &mut [u8],
     memory: &[u8],
     rom: &[u8],
     settings: Settings,
     row: u8,
+    cells: [[u8; 3]; 40],
     known: bool,
+    above: [[u8; 3]; 40],
     halves: [bool; 40],
 ) -> [bool; 40]
-    requires { ⌜ (length (now part) ≡ 1600) × (length (now memory) ≡ 16384) × (length (now rom) ≡ 6400) × KnownAbove (settings .ror) (now memory) row known halves ⌝ }
+    requires { ⌜ (length (now part) ≡ 1600) × (length (now memory) ≡ 16384) × (length (now rom) ≡ 6400) × (cells ≡ rowBuffer (settings .ror) (now memory) row) × KnownAbove (settings .ror) (now memory) row known above halves ⌝ }
     ensures { λ r. ⌜ (r ≡ lowerHalves (settings .ror) (now (memory .entry)) row) × (now (part .exit) ≡ rowOf (now (memory .entry)) (now (rom .entry)) settings row) ⌝ }
 {
-    let cells = row_buffer(memory, settings.ror, row);
-    let lowers = lower_halves_after(memory, settings.ror, row, cells, known, halves);
+    let lowers = lower_halves_after(memory, settings.ror, row, cells, known, above, halves);
     let rights = right_halves(cells);
     let tens = tens_of(memory, rom, settings.dor, cells, lowers, rights);
     let pairs = pairs_of(cells, settings.pat, settings.phase);

@@ -7,10 +7,10 @@ use Rattle.picture.proofs.redraw.redraw.Statement.{statement}
 use Rattle.picture.proofs.redraw.redraw.Tie as tie
 
 abbrev Inv-loop : tie.InvT-loop
-Inv-loop picture₀ memory rom settings marks rows₀ known₀ halves₀ r₀ picture rows known halves r = DrawnTo marks picture₀ memory rom settings picture rows known halves r
+Inv-loop picture₀ memory rom settings marks rows₀ known₀ above₀ halves₀ r₀ picture rows known above halves r = DrawnTo marks picture₀ memory rom settings picture rows known above halves r
 
 abbrev μ-loop : tie.MeasureT-loop
-μ-loop picture₀ memory rom settings marks rows₀ known₀ halves₀ r₀ picture rows known halves r = 25 - r
+μ-loop picture₀ memory rom settings marks rows₀ known₀ above₀ halves₀ r₀ picture rows known above halves r = 25 - r
 
 loop-holds : tie.Need-loop-holds Inv-loop μ-loop
 loop-holds c = search (start, needs)
@@ -26,6 +26,12 @@ loop-less c = omega arith
 
 loop-again : tie.Need-loop-again Inv-loop μ-loop
 loop-again c = search (keep, not-true, needs)
+
+cast-row-buffer : tie.Need-cast-row-buffer Inv-loop μ-loop
+cast-row-buffer c = search needs
+
+row-buffer-requires : tie.Need-row-buffer-requires Inv-loop μ-loop
+row-buffer-requires c κs = search needs
 
 mul-draw-row : tie.Need-mul-draw-row Inv-loop μ-loop
 mul-draw-row c = search needs
@@ -49,7 +55,7 @@ cast-draw-row : tie.Need-cast-draw-row Inv-loop μ-loop
 cast-draw-row c = search needs
 
 draw-row-requires : tie.Need-draw-row-requires Inv-loop μ-loop
-draw-row-requires c κs = (search needs, search needs, search needs, c .before .before .before .loop .inv .above)
+draw-row-requires c κs = (search needs, search needs, search needs, c .before .row-buffer .ensures, c .before .before .before .before .loop .inv .over)
 
 add-rows : tie.Need-add-rows Inv-loop μ-loop
 add-rows c = search needs
@@ -67,7 +73,7 @@ same-length : tie.Need-same-length Inv-loop μ-loop
 same-length c = search needs
 
 returns : tie.Need-returns Inv-loop μ-loop
-returns c = end _ _ _ _ _ _ _ _ _ _ (c .before .loop .inv) (c .loop-test .left)
+returns c = end _ _ _ _ _ _ _ _ _ _ _ (c .before .loop .inv) (c .loop-test .left)
 
 pub redraw-spec : {M : Type 1} → statement M
 redraw-spec =
@@ -80,6 +86,8 @@ redraw-spec =
     add-r
     loop-less
     loop-again
+    cast-row-buffer
+    row-buffer-requires
     mul-draw-row
     mul-draw-row-2
     add-draw-row

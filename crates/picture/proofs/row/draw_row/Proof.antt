@@ -5,9 +5,6 @@ use borrow.Author.Needs.{needs}
 use Rattle.picture.proofs.row.draw_row.Statement.{statement}
 use Rattle.picture.proofs.row.draw_row.Tie as tie
 
-row-buffer-requires : tie.Need-row-buffer-requires
-row-buffer-requires c κs = search needs
-
 lower-halves-after-requires : tie.Need-lower-halves-after-requires
 lower-halves-after-requires c κs = search needs
 
@@ -32,11 +29,10 @@ returns c = let d = c .before .before in
     let t = p .before in
     let r = t .before in
     let h = r .before in
-    let b = h .before in
-    let k = b .before in (
+    let k = h .before in (
       h .lower-halves-after .ensures,
       d .draw-lines .ensures
-          ∙ drawn-row _ _ _ _ (λ i. omega (arith, k .before .shared-slice-known .given i)) (λ i. omega (arith, k .shared-slice-known2 .given i)) _ _ _ _ _ (b .row-buffer .ensures) (h .lower-halves-after .ensures) (r .right-halves .ensures) (t .tens-of .ensures)
+          ∙ drawn-row _ _ _ _ (λ i. omega (arith, k .before .shared-slice-known .given i)) (λ i. omega (arith, k .shared-slice-known2 .given i)) _ _ _ _ _ (k .before .before .before .pre .3) (h .lower-halves-after .ensures) (r .right-halves .ensures) (t .tens-of .ensures)
           (p .pairs-of .ensures),
     )
 
@@ -44,7 +40,6 @@ pub draw-row-spec : {M : Type 1} → statement M
 draw-row-spec =
     tie.close
     (tie.spec
-    row-buffer-requires
     lower-halves-after-requires
     right-halves-requires
     tens-of-requires
