@@ -1,0 +1,171 @@
+/*
+ * The benchmark's scenarios: what a panel's controller asks of the library, repeated so that its cost can be counted or timed.
+ *
+ *     bench prepare SCENARIO              writes the panels that the scenario begins with to standard output
+ *     bench repeat SCENARIO REPETITIONS   reads them from standard input, and writes them as the repetitions have left them
+ *     bench time SCENARIO                 reads them, and prints how many times as long as the floor a repetition takes
+ *
+ * Preparing is a run of its own, so that a run that is counted does little besides its repetitions. All memory and every picture are
+ * written out at its end, so that nothing of the work is for nothing.
+ */
+#include <stdio.h>
+#include <stdlib.h>
+#include <string.h>
+#include <time.h>
+
+#include "prepare.h"
+
+/* A repetition: of a scenario with several panels each takes its turn, and a round is over when all of them have had one. */
+struct scenario {
+    const char *name;
+    unsigned panels;
+    void (*prepare)(struct panel *panel, unsigned row);
+    void (*repeat)(struct panel *panel, unsigned long round);
+};
+
+static struct panel panels[BINTURAMIS_ROWS];
+
+/* The floor copies a picture to here. */
+static uint8_t screen[BINTURAMIS_PICTURE_BYTES];
+
+/* Volatile, so that the compiler can neither leave a copy out nor make it by instructions of its own. */
+static void *(*volatile copy)(void *, const void *, size_t) = memcpy;
+
+static void repeat_copy(struct panel *panel, unsigned long round)
+{
+    (void)round;
+    copy(screen, panel->picture, sizeof screen);
+}
+
+static void repeat_redraw(struct panel *panel, unsigned long round)
+{
+    (void)round;
+    panel->processor = panel->before;
+    draw(panel, BINTURAMIS_ROWS);
+}
+
+static void repeat_row(struct panel *panel, unsigned long round)
+{
+    (void)round;
+    panel->processor = panel->before;
+    draw(panel, 1);
+}
+
+static void repeat_unmarked(struct panel *panel, unsigned long round)
+{
+    (void)round;
+    draw(panel, 0);
+}
+
+/* From round to round the cell changes to the other page's and back. */
+static void repeat_changed(struct panel *panel, unsigned long round)
+{
+    panel->processor = panel->before;
+    put_cell(panel, panel->row, panel->column, panel->pages[round % 2][panel->row][panel->column]);
+}
+
+static void repeat_unchanged(struct panel *panel, unsigned long round)
+{
+    (void)round;
+    put_cell(panel, panel->row, panel->column, panel->pages[0][panel->row][panel->column]);
+}
+
+static void repeat_refill(struct panel *panel, unsigned long round)
+{
+    put_page(panel, panel->pages[round % 2]);
+    draw(panel, BINTURAMIS_ROWS);
+}
+
+/* The first is the floor. */
+static const struct scenario scenarios[] = {
+    {"copy", 1, prepare_drawn, repeat_copy},
+    {"redraw", 1, prepare_marked, repeat_redraw},
+    {"double", 1, prepare_double, repeat_redraw},
+    {"row", BINTURAMIS_ROWS, prepare_one_row, repeat_row},
+    {"unmarked", 1, prepare_drawn, repeat_unmarked},
+    {"changed", BINTURAMIS_ROWS, prepare_drawn, repeat_changed},
+    {"unchanged", BINTURAMIS_ROWS, prepare_changed, repeat_unchanged},
+    {"refill", 1, prepare_drawn, repeat_refill},
+    {"refill_single", 1, prepare_single, repeat_refill},
+};
+
+static const struct scenario *named(const char *name)
+{
+    for (size_t i = 0; i < sizeof scenarios / sizeof *scenarios; i++)
+        if (strcmp(scenarios[i].name, name) == 0)
+            return &scenarios[i];
+    fprintf(stderr, "bench: there is no scenario %s\n", name);
+    exit(2);
+}
+
+static void read_panels(const struct scenario *scenario)
+{
+    if (fread(panels, sizeof *panels, scenario->panels, stdin) != scenario->panels || getchar() != EOF)
+        fail("standard input has not the panels of the scenario");
+}
+
+static void write_panels(const struct scenario *scenario)
+{
+    if (fwrite(panels, sizeof *panels, scenario->panels, stdout) != scenario->panels || fflush(stdout) != 0)
+        fail("the panels cannot be written");
+}
+
+static void prepare(const struct scenario *scenario)
+{
+    for (unsigned row = 0; row < scenario->panels; row++)
+        scenario->prepare(&panels[row], row);
+    write_panels(scenario);
+}
+
+static void repeat(const struct scenario *scenario, unsigned long repetitions)
+{
+    for (unsigned long i = 0; i < repetitions; i++)
+        scenario->repeat(&panels[i % scenario->panels], i / scenario->panels);
+}
+
+static void repeat_and_write(const struct scenario *scenario, const char *word)
+{
+    char *end;
+    unsigned long repetitions = strtoul(word, &end, 10);
+    if (end == word || *end != '\0')
+        fail("the repetitions are not a number");
+    read_panels(scenario);
+    repeat(scenario, repetitions);
+    write_panels(scenario);
+    if (fwrite(screen, sizeof screen, 1, stdout) != 1 || fflush(stdout) != 0)
+        fail("the screen cannot be written");
+}
+
+/* The clocks that a repetition takes, by so many that they take a quarter of a second. Whole rounds, so that all panels count alike. */
+static double clocks_each(const struct scenario *scenario)
+{
+    for (unsigned long repetitions = 2 * scenario->panels;; repetitions *= 2) {
+        clock_t begin = clock();
+        repeat(scenario, repetitions);
+        clock_t taken = clock() - begin;
+        if (taken >= CLOCKS_PER_SEC / 4)
+            return (double)taken / (double)repetitions;
+    }
+}
+
+static void print_time(const struct scenario *scenario)
+{
+    read_panels(scenario);
+    double floor = clocks_each(&scenarios[0]);
+    printf("%.3f\n", clocks_each(scenario) / floor);
+}
+
+int main(int count, char **words)
+{
+    if (count == 3 && strcmp(words[1], "prepare") == 0)
+        prepare(named(words[2]));
+    else if (count == 4 && strcmp(words[1], "repeat") == 0)
+        repeat_and_write(named(words[2]), words[3]);
+    else if (count == 3 && strcmp(words[1], "time") == 0)
+        print_time(named(words[2]));
+    else {
+        fputs("usage: bench prepare SCENARIO, bench repeat SCENARIO REPETITIONS, or bench time SCENARIO\n", stderr);
+        return 2;
+    }
+    return 0;
+}
