@@ -23,7 +23,10 @@ struct scenario {
     void (*repeat)(struct panel *panel, unsigned long round);
 };
 
-static struct panel panels[BINTURAMIS_ROWS];
+/* What a changed cell costs depends on its row and on the registers, so each row has several pages, with registers of their own. */
+#define PAGES (4 * BINTURAMIS_ROWS)
+
+static struct panel panels[PAGES];
 
 /* The floor copies a picture to here. */
 static uint8_t screen[BINTURAMIS_PICTURE_BYTES];
@@ -83,8 +86,8 @@ static const struct scenario scenarios[] = {
     {"double", 1, prepare_double, repeat_redraw},
     {"row", BINTURAMIS_ROWS, prepare_one_row, repeat_row},
     {"unmarked", 1, prepare_drawn, repeat_unmarked},
-    {"changed", BINTURAMIS_ROWS, prepare_drawn, repeat_changed},
-    {"unchanged", BINTURAMIS_ROWS, prepare_changed, repeat_unchanged},
+    {"changed", PAGES, prepare_drawn, repeat_changed},
+    {"unchanged", PAGES, prepare_changed, repeat_unchanged},
     {"refill", 1, prepare_drawn, repeat_refill},
     {"refill_single", 1, prepare_single, repeat_refill},
 };
@@ -112,8 +115,8 @@ static void write_panels(const struct scenario *scenario)
 
 static void prepare(const struct scenario *scenario)
 {
-    for (unsigned row = 0; row < scenario->panels; row++)
-        scenario->prepare(&panels[row], row);
+    for (unsigned i = 0; i < scenario->panels; i++)
+        scenario->prepare(&panels[i], i % BINTURAMIS_ROWS);
     write_panels(scenario);
 }
 

@@ -1,6 +1,6 @@
 /*
- * How the panels are prepared that the scenarios of the benchmark begin with. Each takes the number of the panel, which is the row of the
- * cell that is changed alone, and leaves the processor in `before` too. The same panels are made in every run.
+ * How the panels are prepared that the scenarios of the benchmark begin with. Each takes the row of the cell that is changed alone, and
+ * leaves the processor in `before` too. The same panels are made in every run.
  */
 #ifndef PREPARE_H
 #define PREPARE_H
