@@ -52,26 +52,20 @@ module _ (r i : List ℕ) (x y z : ℕ) (marks rest : List ℕ) (lr : length r �
   last-part : take 25 (drop 19 whole) ≡ marks
   last-part = ap (take 25) (sym (drop-drop 3 16 whole) ∙ ap (drop 3) behind) ∙ take-at marks rest 25 lm
 
+  -- unpacked
+  made :
+      unpacked whole
+      ≡ record { registers = r; indirect = i; lxm = isOn x; lxa = isOn y; phase = z; marks = map isOn marks }
+  unfolding unpacked
+  made = rw (first-part, second-part, at-place 0, at-place 1, at-place 2, last-part)
+
 -- every processor comes back as it was
 pub unpacked-packed : (p : Processor) → Sized p → unpacked (packed p) ≡ p
-unfolding packed unpacked
+unfolding packed
 unpacked-packed p s =
-    let M : List ℕ = map oneIf (p .marks) in
-    let long : length M ≡ 25 = length-map (p .marks) oneIf ∙ s .2 in
-    let m = oneIf (p .lxm) in
-    let a = oneIf (p .lxa) in
-    let z : List ℕ = replicate 20 0 in
-    rw (
-      first-part (p .registers) (p .indirect) m a (p .phase) M z (s .0) (s .1) long,
-      second-part (p .registers) (p .indirect) m a (p .phase) M z (s .0) (s .1) long,
-      at-place (p .registers) (p .indirect) m a (p .phase) M z (s .0) (s .1) long 0,
-      at-place (p .registers) (p .indirect) m a (p .phase) M z (s .0) (s .1) long 1,
-      at-place (p .registers) (p .indirect) m a (p .phase) M z (s .0) (s .1) long 2,
-      last-part (p .registers) (p .indirect) m a (p .phase) M z (s .0) (s .1) long,
-      on-flag (p .lxm),
-      on-flag (p .lxa),
-      on-one (p .marks),
-    )
+    made (p .registers) (p .indirect) (oneIf (p .lxm)) (oneIf (p .lxa)) (p .phase) (map oneIf (p .marks)) (replicate 20 0)
+    (s .0) (s .1) (length-map (p .marks) oneIf ∙ s .2)
+    ∙ rw (on-flag (p .lxm), on-flag (p .lxa), on-one (p .marks))
 
 -- any 64 bytes are a processor's
 pub unpacked-sized : (bytes : List ℕ) → length bytes ≡ 64 → Sized (unpacked bytes)
