@@ -3,6 +3,7 @@ pub mod Layouts
 pub mod RoundTrip
 pub mod Accesses
 pub mod Calls
+pub mod Rows
 pub mod Sizes
 pub mod Runs
 pub mod Refusals

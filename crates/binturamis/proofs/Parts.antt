@@ -1,7 +1,7 @@
 -- Laws of a part that is taken out of bytes, and of one that is put in: an element, the length, and a turn of the loop that does it.
 -- Assumes nothing.
 use Prim.Native.Nat.{ℕ, _+_, _≤_, _<_}
-use mathlib.Core.Path.{_≡_, refl, sym, ap, _∙_}
+use mathlib.Core.Path.{_≡_, sym, ap, _∙_}
 use mathlib.Core.Bool.{Bool, false}
 use mathlib.Core.List.{List, _++_, map, append-assoc}
 use native.Mathlib.Numerals.{add-one}
@@ -48,6 +48,14 @@ pub put-set :
     → set xs (start + i) v ≡ paste d start s (i + 1)
 put-set d start s xs i v q e h l = rw (q, e, add-one) (paste-suc d start s i 0 h l)
 
+-- one mark
+pub put-mark :
+    (d : List ℕ) (start : ℕ) (marks : List Bool) (xs : List ℕ) (i v : ℕ)
+    → xs ≡ paste d start (map oneIf marks) i → v ≡ oneIf (getD marks i false) → start + i < length d → i < length marks
+    → set xs (start + i) v ≡ paste d start (map oneIf marks) (i + 1)
+put-mark d start marks xs i v q e h l =
+    put-set d start (map oneIf marks) xs i v q (e ∙ sym (List·getD-map oneIf marks i false)) h (omega (arith, length-map marks oneIf))
+
 pub put-end : (d : List ℕ) (start : ℕ) (s xs : List ℕ) (n i : ℕ) → xs ≡ paste d start s i → i ≤ n → n ≤ i → xs ≡ paste d start s n
 put-end d start s xs n i q a b = let e : i ≡ n = omega arith in rw (← e) q
 
@@ -58,11 +66,3 @@ put-middle a b c s n w la lb ls =
     let front : take n (a ++ b ++ c) ≡ a = ap (take n) (append-assoc a b c) ∙ take-at a (b ++ c) n la in
     let rest : drop (n + w) (a ++ b ++ c) ≡ c = drop-at (a ++ b) c (n + w) (length-append a b ∙ omega arith) in
     rw (front, rest, take-all w s (omega arith))
-
--- one mark
-pub put-mark :
-    (d : List ℕ) (start : ℕ) (marks : List Bool) (xs : List ℕ) (i v : ℕ)
-    → xs ≡ paste d start (map oneIf marks) i → v ≡ oneIf (getD marks i false) → start + i < length d → i < length marks
-    → set xs (start + i) v ≡ paste d start (map oneIf marks) (i + 1)
-put-mark d start marks xs i v q e h l =
-    put-set d start (map oneIf marks) xs i v q (e ∙ sym (List·getD-map oneIf marks i false)) h (omega (arith, length-map marks oneIf))

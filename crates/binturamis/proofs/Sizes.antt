@@ -26,7 +26,7 @@ use Rattle.processor.specs.Pointers.{pointerOf, incremented, incrementedIf}
 use Rattle.processor.specs.Bytes.{placeAt, stored, octet, codeRead, codeStored, code}
 use Rattle.processor.specs.Access.{Outcome, outcome, indirect, atPointer, ran, executed, checked, written, readOut, phased, turned}
 use Rattle.processor.specs.Draws.{DrawOutcome, drawOutcome, drawnPage, drawn}
-use Rattle.kept.specs.Runs.{Operation, write, read, turn, draw, World, first, step, run}
+use Rattle.kept.specs.Runs.{Operation, write, read, turn, draw, World, step, run}
 use Rattle.binturamis.specs.Layouts.{Sized}
 
 -- a register, whichever

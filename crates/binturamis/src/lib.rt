@@ -23,6 +23,7 @@ use leave::leave_drawn;
 use processor::state::Processor;
 use report::reported;
 
+// Power-up, whatever the bytes held.
 #[no_mangle]
 pub extern "C" fn binturamis_power_up(p: &mut [u8; 64])
     ensures { λ r. ⌜ now (p .exit) ≡ packed powerUp ⌝ }
@@ -30,6 +31,7 @@ pub extern "C" fn binturamis_power_up(p: &mut [u8; 64])
     *p = packed(Processor::power_up());
 }
 
+// A register is written; then the command runs, if the address asks for it. A plain write stores in place.
 #[no_mangle]
 pub extern "C" fn binturamis_write(
     p: &mut [u8; 64],
@@ -49,6 +51,7 @@ pub extern "C" fn binturamis_write(
     leave(p, answered)
 }
 
+// A register is read; then the command runs, if the address asks for it, and may store.
 #[no_mangle]
 pub extern "C" fn binturamis_read(p: &mut [u8; 64], memory: &mut [u8], address: u8) -> u32
     ensures { λ r. ⌜ called (now (p .exit)) (now (memory .exit)) r ≡ callOf (readOut address (kept (unpacked (now (p .entry))) (now (memory .entry)))) ⌝ }
@@ -62,6 +65,7 @@ pub extern "C" fn binturamis_read(p: &mut [u8; 64], memory: &mut [u8], address: 
     leave(p, answered)
 }
 
+// The phase change.
 #[no_mangle]
 pub extern "C" fn binturamis_turn(p: &mut [u8; 64], memory: &[u8], phase: u8) -> u32
     ensures { λ r. ⌜ called (now (p .exit)) (now (memory .entry)) r ≡ callOf (turned phase (kept (unpacked (now (p .entry))) (now (memory .entry)))) ⌝ }
@@ -70,6 +74,7 @@ pub extern "C" fn binturamis_turn(p: &mut [u8; 64], memory: &[u8], phase: u8) ->
     leave(p, answered)
 }
 
+// The marked rows are redrawn and the marks cleared.
 #[no_mangle]
 pub extern "C" fn binturamis_draw(
     p: &mut [u8; 64],
@@ -83,6 +88,7 @@ pub extern "C" fn binturamis_draw(
     leave_drawn(p, drawn)
 }
 
+// What the bytes hold, to be shown or compared. They stay as they are.
 #[no_mangle]
 pub extern "C" fn binturamis_state(p: &[u8; 64], out: &mut [u8; 48])
     ensures { λ r. ⌜ now (out .exit) ≡ reported (unpacked (now (p .entry))) ⌝ }

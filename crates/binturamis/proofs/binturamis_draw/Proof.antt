@@ -1,4 +1,5 @@
-use Rattle.binturamis.proofs.Calls.{draw-made, rows-few}
+use Rattle.binturamis.proofs.Calls.{draw-made}
+use Rattle.binturamis.proofs.Rows.{rows-few}
 use borrow.Author.Needs.{needs}
 use Rattle.binturamis.proofs.binturamis_draw.Statement.{statement}
 use Rattle.binturamis.proofs.binturamis_draw.Tie as tie

@@ -1,9 +1,8 @@
 use mathlib.Core.Path.{ap, _∙_}
 use Rattle.binturamis.specs.Layouts.{unpacked}
 use Rattle.binturamis.proofs.RoundTrip.{unpacked-packed}
-use borrow.Author.Needs.{length-unmapped}
+use borrow.Author.Needs.{length-unmapped, needs}
 use Rattle.binturamis.proofs.Layouts.{packed-parts}
-use borrow.Author.Needs.{needs}
 use Rattle.binturamis.proofs.layout.packed.Statement.{statement}
 use Rattle.binturamis.proofs.layout.packed.Tie as tie
 

@@ -1,11 +1,9 @@
-use lib.ListN.{length-set}
+use lib.ListN.{length-set, length, take}
 use Rattle.basics.proofs.Filled.{copy-end}
-use Rattle.binturamis.proofs.Parts.{length-part, part-set}
+use Rattle.binturamis.proofs.Parts.{length-part, part-set, part}
 use native.Mathlib.Omega.{arith}
 use mathlib.Core.Path.{_≡_, refl}
 use Prim.Native.Nat.{_≤_, _-_}
-use lib.ListN.{length, take}
-use Rattle.binturamis.proofs.Parts.{part}
 use borrow.Author.Needs.{needs}
 use Rattle.binturamis.proofs.part.eight_from.Statement.{statement}
 use Rattle.binturamis.proofs.part.eight_from.Tie as tie

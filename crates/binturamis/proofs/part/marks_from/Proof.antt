@@ -1,13 +1,11 @@
-use lib.ListN.{length-set}
+use lib.ListN.{length-set, length, take}
 use Rattle.basics.proofs.Filled.{copy-end}
-use Rattle.binturamis.proofs.Parts.{length-marks, mark-set}
+use Rattle.binturamis.proofs.Parts.{length-marks, mark-set, part}
 use native.Mathlib.Omega.{arith}
 use mathlib.Core.Path.{_≡_, refl}
 use Prim.Native.Nat.{_≤_, _-_}
 use mathlib.Core.List.{map}
-use lib.ListN.{length, take}
 use Rattle.binturamis.specs.Layouts.{isOn}
-use Rattle.binturamis.proofs.Parts.{part}
 use borrow.Author.Needs.{needs}
 use Rattle.binturamis.proofs.part.marks_from.Statement.{statement}
 use Rattle.binturamis.proofs.part.marks_from.Tie as tie

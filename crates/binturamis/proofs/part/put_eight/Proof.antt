@@ -1,10 +1,9 @@
-use Rattle.binturamis.proofs.Parts.{put-end}
+use Rattle.binturamis.proofs.Parts.{put-end, put-set}
 use native.Mathlib.Omega.{arith}
 use mathlib.Core.Path.{_≡_, refl}
 use Prim.Native.Nat.{_≤_, _-_}
 use lib.ListN.{length, length-set}
 use lib.Seq.{paste, paste-zero}
-use Rattle.binturamis.proofs.Parts.{put-set}
 use borrow.Author.Needs.{needs}
 use Rattle.binturamis.proofs.part.put_eight.Statement.{statement}
 use Rattle.binturamis.proofs.part.put_eight.Tie as tie

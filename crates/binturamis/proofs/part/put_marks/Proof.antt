@@ -1,4 +1,4 @@
-use Rattle.binturamis.proofs.Parts.{put-end}
+use Rattle.binturamis.proofs.Parts.{put-end, put-mark}
 use native.Mathlib.Omega.{arith}
 use mathlib.Core.Path.{_≡_, refl}
 use Prim.Native.Nat.{_≤_, _-_}
@@ -6,7 +6,6 @@ use mathlib.Core.List.{map}
 use lib.ListN.{length, length-set}
 use lib.Seq.{paste, paste-zero}
 use Rattle.basics.specs.Choice.{oneIf}
-use Rattle.binturamis.proofs.Parts.{put-mark}
 use borrow.Author.Needs.{needs}
 use Rattle.binturamis.proofs.part.put_marks.Statement.{statement}
 use Rattle.binturamis.proofs.part.put_marks.Tie as tie

@@ -1,6 +1,5 @@
-use borrow.Author.Needs.{length-unmapped}
+use borrow.Author.Needs.{length-unmapped, needs}
 use Rattle.binturamis.proofs.Layouts.{reported-parts}
-use borrow.Author.Needs.{needs}
 use Rattle.binturamis.proofs.report.reported.Statement.{statement}
 use Rattle.binturamis.proofs.report.reported.Tie as tie
 
