@@ -3,7 +3,7 @@
 -- Assumes nothing.
 use Prim.Native.Nat.{ℕ, _+_, _*_, _/_, _%_, _≤_, _<_}
 use mathlib.Core.Path.{_≡_, refl, sym, ap, ap₂, _∙_}
-use mathlib.Core.Bool.{Bool, true, false, _&&_, _||_, false≢true}
+use mathlib.Core.Bool.{Bool, true, false, _&&_, _||_, false≢true, and-true, and-false, or-false}
 use mathlib.Core.List.{List}
 use mathlib.Core.Logic.{⊎-elim}
 use native.Mathlib.Omega.{arith}
@@ -30,7 +30,7 @@ use Rattle.page.specs.declared.source.Source.{Source}
 use Rattle.page.specs.declared.source.Source.the-variants.{Rom, Block}
 use Rattle.reading.specs.Lists.{isAt, sourceHolds, cellHolds}
 use Rattle.reading.specs.Runs.{keyIf, user0Key, user1Key, quadKey, keysOf, showsCharacter, fromBlock, keyed}
-use Rattle.reading.proofs.Tests.{together, and-true, and-false, or-false}
+use Rattle.reading.proofs.Tests.{together}
 
 -- one character has the place among its slices
 module _ (x y z : ℕ) (page : onPage x y ≡ true) where

@@ -2,22 +2,26 @@
 -- Assumes nothing.
 use Prim.Native.Nat.{ℕ, zero, suc, _+_, _%_, _≤_, _<_}
 use mathlib.Core.Path.{_≡_, refl, sym, ap, ap₂, _∙_}
-use mathlib.Core.Bool.{Bool, true, false, _&&_, _||_}
+use mathlib.Core.Bool.{Bool, true, false, _&&_, _||_, and-false}
 use mathlib.Core.List.{List}
+use mathlib.Core.Logic.{⊎-elim}
+use lib.Seq.{getD-set-other, ext-getD}
 use native.Mathlib.Omega.{arith}
 use native.Mathlib.Numerals.{add-one}
 use lib.Dec.{eqb}
 use borrow.Author.Tests.{eq-eqb, ne-eqb}
 use lib.ListN.{length, getD, take, set, length-set}
-use Rattle.basics.specs.Below.{anyBelow}
+use Rattle.basics.specs.Below.{anyBelow, endBelow}
 use Rattle.basics.specs.Parts.{table, joined}
-use Rattle.basics.proofs.Below.{any-same}
-use Rattle.basics.proofs.Filled.{table-set, table-end}
+use Rattle.basics.proofs.Choice.{or-left, lt-or-le}
+use Rattle.basics.proofs.Below.{any-same, end-past}
+use Rattle.basics.proofs.Parts.{length-table, table-at}
+use Rattle.basics.proofs.Filled.{table-set, table-end, table-front}
 use Rattle.address.specs.declared.triple.Triple.{Triple}
 use Rattle.address.specs.Triples.{legal}
 use Rattle.address.specs.Places.{placeOf, blockOf}
 use Rattle.address.specs.Rows.{rowY}
-use Rattle.address.proofs.Laws.{legal-page}
+use Rattle.address.proofs.Laws.{facts-y, page-row, legal-page}
 use Rattle.page.specs.Codes.{yorOf, firstBlock, codeOf}
 use Rattle.page.specs.Halves.{isTall}
 use Rattle.page.specs.Inputs.{flashes}
@@ -26,31 +30,54 @@ use Rattle.picture.specs.Redraws.{isMarked}
 use Rattle.reading.specs.declared.key.Keys.{Keys}
 use Rattle.reading.specs.Lists.{rowHolds, cellHolds, slicesHold, hasTall, aboveHolds, onList}
 use Rattle.reading.specs.Marks.{canDraw, markedToo, storeMarks, flashIn, phaseMarks}
-use Rattle.reading.specs.Runs.{keysOf, keyed, codeBlock}
-use Rattle.reading.proofs.Tests.{and-false, marked-first}
+use Rattle.reading.specs.Runs.{keysOf, keyed, codeBlock, rowAt, isUnmarked}
+use Rattle.reading.proofs.Tests.{not-false, marked-first}
 use Rattle.reading.proofs.Characters.{keyed-cell}
-use Rattle.reading.proofs.Places.{own-bytes}
+use Rattle.reading.proofs.Places.{own-bytes, row-at}
 
 -- the first r marks are those of rows that were marked or pass
 pub record MarkedTo (f : ℕ → Bool) (marks after : List Bool) (r : ℕ) : Type 0 where
   pub within : r ≤ 25
   pub long : length after ≡ 25
   pub done : take r after ≡ table (λ i. isMarked marks i || f i) r
+  pub rest : (i : ℕ) → r ≤ i → isMarked after i ≡ isMarked marks i
 
 module _ (f : ℕ → Bool) (marks : List Bool) where
-  pub marked-start : (after : List Bool) → length after ≡ 25 → MarkedTo f marks after 0
+  pub marked-start : length marks ≡ 25 → MarkedTo f marks marks 0
   unfolding joined
-  marked-start after h = record { within = omega arith; long = h; done = refl }
+  marked-start h = record { within = omega arith; long = h; done = refl; rest = λ i l. refl }
 
   module _ (after : List Bool) (r : ℕ) (d : MarkedTo f marks after r) where
     pub marked-turn : r < 25 → (new : Bool) → new ≡ (isMarked marks r || f r) → MarkedTo f marks (set after r new) (r + 1)
     marked-turn l new e =
         let long = d .long in
-        record { within = omega arith; long = simp length-set long; done = table-set _ after r new (d .done) e (omega arith) }
+        record {
+          within = omega arith;
+          long = simp length-set long;
+          done = table-set _ after r new (d .done) e (omega arith);
+          rest = λ i k. getD-set-other after r i new false (λ q. omega arith) ∙ d .rest i (omega arith);
+        }
 
     pub marked-end : 25 ≤ r → after ≡ markedToo f marks
     unfolding markedToo
     marked-end h = table-end _ after 25 r (d .done) (d .within) h (d .long)
+
+    -- where the rows that were not asked are marked already
+    pub marked-early : endBelow (isUnmarked marks) 25 ≤ r → after ≡ markedToo f marks
+    unfolding markedToo
+    marked-early h =
+        let long = d .long in
+        ext-getD false after _ (long ∙ sym (length-table (λ i. isMarked marks i || f i) 25))
+        (λ i l. value i (omega arith) ∙ sym (table-at (λ k. isMarked marks k || f k) 25 i false (omega arith)))
+      where
+        value : (i : ℕ) → i < 25 → isMarked after i ≡ (isMarked marks i || f i)
+        value i l =
+            ⊎-elim
+            (λ (b : i < r). table-front (λ k. isMarked marks k || f k) after r i false (d .done) b)
+            (λ (b : r ≤ i).
+            let m : isMarked marks i ≡ true = not-false (isMarked marks i) (end-past (isUnmarked marks) 25 i (omega arith) l) in
+            d .rest i b ∙ m ∙ sym (or-left (isMarked marks i) (f i) m))
+            (lt-or-le i r)
 
 -- a row, by the block and the Y that the code has
 module _ (ror : ℕ) (m : List ℕ) (r z y : ℕ) (ez : z ≡ firstBlock ror) (ey : y ≡ rowY (ror % 32) r) where
@@ -106,22 +133,27 @@ module _ (ror dor : ℕ) (m : List ℕ) (at : Triple) (marks : List Bool) where
   abbrev stored : ℕ
   stored = placeOf (at .x) (at .y) (at .z)
 
-  pub asked-start : (after : List Bool) → length after ≡ 25 → AskedTo ror dor m stored marks after false 0
-  asked-start after h = record { marked = marked-start _ marks after h; down = refl }
+  pub asked-start : length marks ≡ 25 → AskedTo ror dor m stored marks marks false 0
+  asked-start h = record { marked = marked-start _ marks h; down = refl }
 
   module _
       (lawful : legal at ≡ true) (small : dor < 256) (bytes : (k : ℕ) → getD m k 0 < 256) (z : ℕ) (keys : Keys) (code : Bool)
       (ez : z ≡ firstBlock ror) (ek : keys ≡ keysOf dor at) (ec : code ≡ codeBlock z (at .z))
     where
       pub asked-turn :
-          (after : List Bool) (reached : Bool) (r y : ℕ) (above new : Bool)
-          → AskedTo ror dor m stored marks after reached r → r < 25 → y ≡ rowY (ror % 32) r
-          → above ≡ (anyBelow (λ x. isTall (codeOf m z y x)) 40 && reached)
-          → new ≡ ((isMarked marks r || ((code && eqb y (at .y)) || above)) || anyBelow (λ x. keyed keys (codeOf m z y x)) 40)
-          → AskedTo ror dor m stored marks (set after r new) ((code && eqb y (at .y)) || above) (r + 1)
+          (after : List Bool) (reached : Bool) (r row : ℕ) (above new : Bool)
+          → AskedTo ror dor m stored marks after reached r → r < 25 → row ≡ rowAt (ror % 32) (at .y)
+          → above ≡ (anyBelow (λ x. isTall (codeOf m z (rowY (ror % 32) r) x)) 40 && reached)
+          → new ≡ ((isMarked marks r || ((code && eqb r row) || above)) || anyBelow (λ x. keyed keys (codeOf m z (rowY (ror % 32) r) x)) 40)
+          → AskedTo ror dor m stored marks (set after r new) ((code && eqb r row) || above) (r + 1)
       unfolding onList
-      asked-turn after reached r y above new d l ey ea en =
-          let own = own-row ror m r z y ez ey dor at lawful code ec in
+      asked-turn after reached r row above new d l er ea en =
+          let y = rowY (ror % 32) r in
+          let ey : y ≡ rowY (ror % 32) r = refl in
+          let own =
+          ap (λ (k : ℕ). code && eqb r k) er
+          ∙ ap (λ (t : Bool). code && t) (row-at (ror % 32) (at .y) r l (facts-y (at .y) (page-row (at .x) (at .y) (legal-page at lawful))))
+          ∙ own-row ror m r z y ez ey dor at lawful code ec in
           let up : above ≡ aboveHolds ror m stored r = ea ∙ ap₂ _&&_ (tall-row ror m r z y ez ey) (d .down) ∙ above-handed ror m stored r in
           let slices = slices-row ror m r z y ez ey dor at lawful keys ek small bytes in
           record {

@@ -1,23 +1,23 @@
 -- Which rows have a byte among their own: the place of a legal triple is that of one cell's byte on the page, or of none.
 -- Assumes nothing.
-use Prim.Native.Nat.{ℕ, _<_}
+use Prim.Native.Nat.{ℕ, _+_, _-_, _%_, _≤_, _<_}
 use mathlib.Core.Path.{_≡_, sym, ap, _∙_}
 use mathlib.Core.Bool.{Bool, true, _&&_}
-use mathlib.Core.Logic.{⊎-elim}
+use mathlib.Core.Logic.{_⊎_, ⊎-elim}
 use native.Mathlib.Omega.{arith}
 use lib.Dec.{eqb}
-use borrow.Author.Tests.{eq-eqb, eqb-true}
-use Rattle.basics.proofs.Choice.{and-left, and-right, and-both, or-cases, or-left, or-right}
+use borrow.Author.Tests.{lt-ltb, le-ltb, eq-eqb, eqb-true}
+use Rattle.basics.proofs.Choice.{and-left, and-right, and-both, or-cases, or-left, or-right, eq-or-ne}
 use Rattle.basics.proofs.Below.{any-hit, any-at}
 use Rattle.address.specs.declared.triple.Triple.{Triple}
-use Rattle.address.specs.Triples.{onPage, legal}
+use Rattle.address.specs.Triples.{legalY, onPage, legal}
 use Rattle.address.specs.Places.{placeOf, blockOf}
 use Rattle.address.specs.Rows.{rowY}
-use Rattle.address.proofs.Laws.{y-facts, page-column, page-row, facts-page, legal-page, row-legal}
+use Rattle.address.proofs.Laws.{y-facts, page-column, page-row, facts-page, legal-page, row-legal, row-service, row-from-one}
 use Rattle.address.proofs.Places.{place-injective}
 use Rattle.page.specs.Codes.{yorOf, firstBlock}
 use Rattle.reading.specs.Lists.{codePlace, codeHolds, rowHolds}
-use Rattle.reading.specs.Runs.{codeBlock}
+use Rattle.reading.specs.Runs.{rowAt, codeBlock}
 use Rattle.reading.proofs.Tests.{together}
 
 pub legal-row : (at : Triple) → legal at ≡ true → at .y < 32
@@ -71,3 +71,36 @@ module _ (x y z : ℕ) (page : onPage x y ≡ true) (ror r : ℕ) where
       together _ _
       (λ e. any-hit _ 40 x (page-column x y page) (held e))
       (λ e. let w = any-at _ 40 e in only (w .at) (w .low) (w .passes))
+
+-- a row is found by its Y
+module _ (yor y : ℕ) where
+  pub row-at-service : y < 8 → rowAt yor y ≡ 0
+  unfolding rowAt
+  row-at-service h = simp (lt-ltb _ _ h)
+
+  pub row-at-other : 8 ≤ y → rowAt yor y ≡ 1 + (y + 16 - (yor - 8) % 24) % 24
+  unfolding rowAt
+  row-at-other h = simp (le-ltb _ _ h)
+
+  pub row-at : (r : ℕ) → r < 25 → legalY y ≡ true → eqb r (rowAt yor y) ≡ eqb (rowY yor r) y
+  row-at r l e =
+      together _ _
+      (λ t. eq-eqb _ _ (there-at (eqb-true _ _ t) (y-facts y e)))
+      (λ t. eq-eqb _ _ (back-at (eqb-true _ _ t) (y-facts y e)))
+    where
+      there-at : r ≡ rowAt yor y → (y ≡ 0) ⊎ ((8 ≤ y) × (y < 32)) → rowY yor r ≡ y
+      there-at q f =
+          ⊎-elim
+          (λ z. row-service yor r (q ∙ row-at-service (omega arith)) ∙ sym z)
+          (λ z. let k = row-at-other (z .0) in let s = row-from-one yor r (λ n. omega (arith, k)) in omega (arith, k, s))
+          f
+
+      back-at : rowY yor r ≡ y → (y ≡ 0) ⊎ ((8 ≤ y) × (y < 32)) → r ≡ rowAt yor y
+      back-at q f =
+          ⊎-elim
+          (λ (o : r ≡ 0).
+          let s = row-service yor r o in ⊎-elim (λ z. o ∙ sym (row-at-service (omega arith))) (λ z. absurd (omega (arith, s))) f)
+          (λ (n : r ≡ 0 → ⊥).
+          let s = row-from-one yor r n in
+          ⊎-elim (λ z. absurd (omega (arith, s))) (λ z. let k = row-at-other (z .0) in omega (arith, k, s, n)) f)
+          (eq-or-ne r 0)

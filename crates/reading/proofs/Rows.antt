@@ -2,7 +2,7 @@
 -- Assumes nothing.
 use Prim.Native.Nat.{ℕ, _+_, _/_, _%_, _≤_, _<_}
 use mathlib.Core.Path.{_≡_, sym, ap, _∙_}
-use mathlib.Core.Bool.{Bool, false, not, _&&_, _||_}
+use mathlib.Core.Bool.{Bool, false, not, _&&_, _||_, and-false}
 use mathlib.Core.List.{List}
 use mathlib.Core.Logic.{⊎-elim}
 use native.Mathlib.Omega.{arith}
@@ -11,7 +11,7 @@ use lib.ListN.{getD}
 use borrow.Author.Tests.{ne-eqb, eqb-true}
 use Rattle.basics.specs.Below.{anyBelow}
 use Rattle.basics.proofs.Below.{any-not}
-use Rattle.basics.proofs.Choice.{lt-or-le, eq-or-ne}
+use Rattle.basics.proofs.Choice.{lt-or-le, eq-or-ne, or-none, or-neither}
 use Rattle.basics.proofs.Computed.{agree-test}
 use Rattle.address.specs.Places.{placeOf, blockOf}
 use Rattle.address.proofs.Laws.{place-left, place-service, place-right}
@@ -21,7 +21,7 @@ use Rattle.page.specs.Halves.{isTall}
 use Rattle.page.specs.Inputs.{flashes}
 use Rattle.reading.specs.declared.key.Keys.{Keys}
 use Rattle.reading.specs.Runs.{isSource, showsCharacter, fromBlock, keyed}
-use Rattle.reading.proofs.Tests.{and-false, not-false, or-none-left, or-none-right, any-never}
+use Rattle.reading.proofs.Tests.{not-false, any-never}
 
 -- a run that crosses from column 31 to column 32 has two starts; another has one
 module _ (first i : ℕ) (column : first + i < 40) (side : first % 32 + i < 32) where
@@ -101,10 +101,10 @@ module _ (keys : Keys) (code : List ℕ) (none : isSource keys ≡ false) (small
   sourceless : keyed keys code ≡ false
   unfolding keyed fromBlock isSource
   sourceless =
-      let rest = or-none-right (not (eqb (keys .user0) 255)) _ none in
-      let p = eqb-true (keys .user0) 255 (not-false _ (or-none-left _ _ none)) in
-      let q = eqb-true (keys .user1) 255 (not-false _ (or-none-left _ _ rest)) in
-      let r = eqb-true (keys .quad) 255 (not-false _ (or-none-right (not (eqb (keys .user1) 255)) _ rest)) in
+      let rest = or-none (not (eqb (keys .user0) 255)) _ none in
+      let p = eqb-true (keys .user0) 255 (not-false _ (or-neither _ _ none)) in
+      let q = eqb-true (keys .user1) 255 (not-false _ (or-neither _ _ rest)) in
+      let r = eqb-true (keys .quad) 255 (not-false _ (or-none (not (eqb (keys .user1) 255)) _ rest)) in
       rw (
         ne-eqb (getD code 1 0 / 32) (keys .user0) (λ e. omega arith),
         ne-eqb (getD code 1 0 / 16) (keys .user1) (λ e. omega arith),

@@ -2,7 +2,7 @@
 -- Assumes nothing.
 use Prim.Native.Nat.{ℕ, zero, suc, _+_, _<_}
 use mathlib.Core.Path.{_≡_, refl, sym, ap, ap₂, _∙_}
-use mathlib.Core.Bool.{Bool, true, false, not, _&&_, _||_, false≢true}
+use mathlib.Core.Bool.{Bool, true, false, not, _||_, or-false, or-assoc}
 use native.Mathlib.Omega.{arith}
 use Rattle.basics.specs.Below.{anyBelow}
 use Rattle.basics.proofs.Below.{any-step, any-same}
@@ -13,33 +13,9 @@ together true b f g = sym (f refl)
 together false true f g = g refl
 together false false f g = refl
 
-pub or-group : (a b c : Bool) → ((a || b) || c) ≡ (a || (b || c))
-or-group true b c = refl
-or-group false b c = refl
-
-pub and-false : (a : Bool) → (a && false) ≡ false
-and-false true = refl
-and-false false = refl
-
-pub and-true : (a : Bool) → (a && true) ≡ a
-and-true true = refl
-and-true false = refl
-
 pub not-false : (a : Bool) → not a ≡ false → a ≡ true
 not-false true e = refl
 not-false false e = sym e
-
-pub or-none-left : (a b : Bool) → (a || b) ≡ false → a ≡ false
-or-none-left true b e = e
-or-none-left false b e = refl
-
-pub or-none-right : (a b : Bool) → (a || b) ≡ false → b ≡ false
-or-none-right true b e = absurd (false≢true (sym e))
-or-none-right false b e = e
-
-pub or-false : (a : Bool) → (a || false) ≡ a
-or-false true = refl
-or-false false = refl
 
 -- a row's mark: what the code asks first, and what the list names first
 pub marked-first : (mark own slices above : Bool) → ((mark || (own || above)) || slices) ≡ (mark || (own || (slices || above)))
@@ -72,7 +48,7 @@ module _ (f : ℕ → Bool) where
       let e : a + suc b ≡ suc (a + b) = omega arith in
       ap (anyBelow f) e
       ∙ ap (λ (t : Bool). t || f (a + b)) (any-split a b)
-      ∙ or-group (anyBelow f a) (anyBelow (λ i. f (a + i)) b) (f (a + b))
+      ∙ or-assoc (anyBelow f a) (anyBelow (λ i. f (a + i)) b) (f (a + b))
 
   -- the two runs of a row
   pub row-runs : (left right : Bool) → left ≡ anyBelow (λ i. f (0 + i)) 32 → right ≡ anyBelow (λ i. f (32 + i)) 8 → (left || right) ≡ anyBelow f 40

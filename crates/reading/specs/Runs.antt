@@ -1,14 +1,16 @@
 -- How the code asks the cells of a row whether they show the character that a store is in. Nothing here has to be believed:
--- `keyed-cell` of proofs/Characters.antt shows that the keys tell exactly the cells that read the byte.
+-- `keyed-cell` of proofs/Characters.antt shows that the keys tell exactly the cells that read the byte, and `row-at` of
+-- proofs/Places.antt that a row is found by its Y.
 -- Assumes nothing.
-use Prim.Native.Nat.{ℕ, _+_, _*_, _/_, _%_}
+use Prim.Native.Nat.{ℕ, _+_, _-_, _*_, _/_, _%_}
 use mathlib.Core.Bool.{Bool, not, _&&_, _||_}
 use mathlib.Core.List.{List}
-use lib.Dec.{eqb}
+use lib.Dec.{eqb, ltb}
 use lib.ListN.{getD}
 use Rattle.basics.specs.Choice.{pick}
 use Rattle.address.specs.declared.triple.Triple.{Triple}
 use Rattle.address.specs.Places.{blockOf}
+use Rattle.picture.specs.Redraws.{isMarked}
 use Rattle.reading.specs.declared.key.Keys.{Keys}
 
 -- 255 is what no part of a byte can be
@@ -49,6 +51,14 @@ fromBlock keys code =
 
 unfoldable pub keyed : Keys → List ℕ → Bool
 keyed keys code = showsCharacter (keys .character) code && fromBlock keys code
+
+-- the screen row whose Y is y, from 1 the way back from 8 + (YOR − 8 + r − 1) modulo 24
+unfoldable pub rowAt : ℕ → ℕ → ℕ
+rowAt yor y = pick (ltb y 8) 0 (1 + (y + 16 - (yor - 8) % 24) % 24)
+
+-- row r is not marked
+abbrev pub isUnmarked : List Bool → ℕ → Bool
+isUnmarked marks r = not (isMarked marks r)
 
 -- z is one of the three blocks of the page
 unfoldable pub codeBlock : ℕ → ℕ → Bool

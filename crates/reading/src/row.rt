@@ -4,6 +4,7 @@ ghost use mathlib.Core.Bool.{_&&_, _||_};
 ghost use Prim.Native.Nat.{_<_};
 ghost use lib.ListN.{length};
 ghost use Rattle.basics.specs.Below.{anyBelow};
+ghost use Rattle.address.specs.Rows.{rowY};
 ghost use Rattle.page.specs.Codes.{codeOf};
 ghost use Rattle.page.specs.Halves.{isTall};
 ghost use Rattle.page.specs.Inputs.{flashes};
@@ -14,6 +15,7 @@ use crate::run::some_character;
 use crate::run::some_flash;
 use crate::run::some_keyed;
 use crate::run::some_tall;
+use address::row::row_y;
 
 fn has_tall(memory: &[u8], z: u8, y: u8) -> bool
     requires { ⌜ (length (now memory) ≡ 16384) × (z < 16) × (y < 32) ⌝ }
@@ -66,24 +68,24 @@ pub fn is_marked_or_flashes(memory: &[u8], z: u8, y: u8, marked: bool) -> bool
     has_flash(memory, z, y)
 }
 
-// The row is marked, or the keys fit a cell of it.
-pub fn is_marked_or_keyed(memory: &[u8], z: u8, y: u8, keys: Keys, marked: bool) -> bool
-    requires { ⌜ (length (now memory) ≡ 16384) × (z < 16) × (y < 32) ⌝ }
-    ensures { λ r. ⌜ r ≡ (marked || anyBelow (λ x. keyed keys (codeOf (now (memory .entry)) z y x)) 40) ⌝ }
+// The row is marked, or the keys fit a cell of it. Its Y is worked out only where it is asked for.
+pub fn is_marked_or_keyed(memory: &[u8], z: u8, yor: u8, row: u8, keys: Keys, marked: bool) -> bool
+    requires { ⌜ (length (now memory) ≡ 16384) × (z < 16) ⌝ }
+    ensures { λ r. ⌜ r ≡ (marked || anyBelow (λ x. keyed keys (codeOf (now (memory .entry)) z (rowY yor row) x)) 40) ⌝ }
 {
     if marked {
         return true;
     }
-    has_keyed(memory, z, y, keys)
+    has_keyed(memory, z, row_y(yor, row), keys)
 }
 
 // The byte is reached by the row above, and the row has a cell of double height.
-pub fn is_reached(memory: &[u8], z: u8, y: u8, above: bool) -> bool
-    requires { ⌜ (length (now memory) ≡ 16384) × (z < 16) × (y < 32) ⌝ }
-    ensures { λ r. ⌜ r ≡ (anyBelow (λ x. isTall (codeOf (now (memory .entry)) z y x)) 40 && above) ⌝ }
+pub fn is_reached(memory: &[u8], z: u8, yor: u8, row: u8, above: bool) -> bool
+    requires { ⌜ (length (now memory) ≡ 16384) × (z < 16) ⌝ }
+    ensures { λ r. ⌜ r ≡ (anyBelow (λ x. isTall (codeOf (now (memory .entry)) z (rowY yor row) x)) 40 && above) ⌝ }
 {
     if above {
-        return has_tall(memory, z, y);
+        return has_tall(memory, z, row_y(yor, row));
     }
     false
 }

@@ -3,20 +3,35 @@
 ghost use mathlib.Core.Path.{_≡_};
 ghost use mathlib.Core.Bool.{true};
 ghost use lib.ListN.{length};
+ghost use Rattle.basics.specs.Below.{endBelow};
 ghost use Rattle.address.specs.Triples.{legal};
 ghost use Rattle.address.specs.Places.{placeOf};
 ghost use Rattle.reading.specs.Lists.{onList};
 ghost use Rattle.reading.specs.Marks.{markedToo, storeMarks};
+ghost use Rattle.reading.specs.Runs.{isUnmarked};
 use crate::key::is_code_block;
 use crate::key::keys_of;
+use crate::own::row_at;
 use crate::refuse::can_draw;
 use crate::row::is_marked_or_keyed;
 use crate::row::is_reached;
 use crate::shown::Shown;
 use address::place::place;
-use address::row::row_y;
 use address::triple::Triple;
 use page::code::first_block;
+
+// One more than the last row that is not marked: from there on no row is asked.
+fn unmarked_end(marks: [bool; 25]) -> usize
+    ensures { λ n. ⌜ n ≡ endBelow (isUnmarked marks) 25 ⌝ }
+{
+    let mut end = 0;
+    for r in 0..25 {
+        if !marks[r] {
+            end = r + 1;
+        }
+    }
+    end
+}
 
 // The rows are asked from the top, so that each hands on to the one below whether its own bytes, or those of the rows above that it
 // reads, hold the byte.
@@ -27,15 +42,16 @@ fn list_marks(marks: [bool; 25], ror: u8, dor: u8, memory: &[u8], at: Triple) ->
     let z = first_block(ror);
     let keys = keys_of(dor, at);
     let code = is_code_block(z, at.z);
+    let end = unmarked_end(marks);
     let mut after = marks;
     let mut reached = false;
-    for r in 0..25 {
-        let y = row_y(ror % 32, r as u8);
-        let own = code & (y == at.y);
-        let above = is_reached(memory, z, y, reached);
+    for r in 0..end {
+        let row = row_at(ror % 32, at.y);
+        let own = code & (r as u8 == row);
+        let above = is_reached(memory, z, ror % 32, r as u8, reached);
         reached = own | above;
         let known = marks[r] | reached;
-        after[r] = is_marked_or_keyed(memory, z, y, keys, known);
+        after[r] = is_marked_or_keyed(memory, z, ror % 32, r as u8, keys, known);
     }
     after
 }

@@ -17,7 +17,7 @@ first-block-requires : tie.Need-first-block-requires Inv-loop μ-loop
 first-block-requires c κs = search needs
 
 loop-holds : tie.Need-loop-holds Inv-loop μ-loop
-loop-holds c = marked-start _ _ _ (search needs)
+loop-holds c = marked-start _ _ (search needs)
 
 cast-row-y : tie.Need-cast-row-y Inv-loop μ-loop
 cast-row-y c = search needs

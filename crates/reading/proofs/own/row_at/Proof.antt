@@ -1,0 +1,32 @@
+use mathlib.Core.Logic.{⊎-elim}
+use Prim.Native.Nat.{ℕ, _+_, _-_, _%_}
+use mathlib.Core.Path.{_≡_, sym, ap, _∙_}
+use native.Mathlib.Omega.{arith}
+use Rattle.reading.proofs.Places.{row-at-service, row-at-other}
+use borrow.Author.Needs.{needs}
+use Rattle.reading.proofs.own.row_at.Statement.{statement}
+use Rattle.reading.proofs.own.row_at.Tie as tie
+
+returns : tie.Need-returns
+returns c = sym (row-at-service _ _ (c .if1 .taken))
+
+add-on : tie.Need-add-on
+add-on c = search needs
+
+sub-on : tie.Need-sub-on
+sub-on c = search needs
+
+cast-result : tie.Need-cast-result
+cast-result c = search needs
+
+add-result : tie.Need-add-result
+add-result c = search needs
+
+returns-2 : tie.Need-returns-2
+returns-2 c = let s = c .before .before .before .args in
+    let h = row-at-other (s .yor) (s .y) (c .before .before .if1 .left) in
+    let e : c .before .if2 .first ≡ s .yor - 8 = ⊎-elim (λ w. omega arith) (λ w. omega arith) (c .before .if2 .came) in
+    ap (λ (f : ℕ). 1 + (s .y + 16 - f % 24) % 24) e ∙ sym h
+
+pub row-at-spec : {M : Type 1} → statement M
+row-at-spec = tie.close (tie.spec returns add-on sub-on cast-result add-result returns-2)
