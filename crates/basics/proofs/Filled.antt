@@ -72,38 +72,30 @@ module _ {A : Type 0} where
   pub front-none : (part : ℕ → List A) → [] ≡ joined part 0
   front-none part = sym (joined-zero part)
 
-  -- a turn that stores the part's elements one after the other
-  pub front-sets :
-      (k : ℕ) (part : ℕ → List A) (xs vs : List A) (i a : ℕ)
-      → take (k * i) xs ≡ joined part i → vs ≡ part i → a ≡ k * i → length vs ≡ k → k * i + k ≤ length xs
-      → take (k * (i + 1)) (sets xs a vs) ≡ joined part (i + 1)
-  front-sets k part xs vs i a q y qa lv h =
-      let long : length (take a xs ++ vs) ≡ k * (i + 1) =
-      length-append (take a xs) vs
-      ∙ ap (λ (m : ℕ). m + length vs) (length-take-le a xs (omega arith))
-      ∙ rw (add-one, mul-suc) (omega arith) in
-      ap (take (k * (i + 1))) (sets-eq vs xs a (omega arith))
-      ∙ take-at (take a xs ++ vs) (drop (a + length vs) xs) (k * (i + 1)) long
-      ∙ ap (λ (m : ℕ). take m xs ++ vs) qa
-      ∙ ap (λ (z : List A). z ++ vs) q
-      ∙ ap (λ (z : List A). joined part i ++ z) y
-      ∙ sym (joined-more part i)
+  four-listed : (b : List A) (d : A) → length b ≡ 4 → (getD b 0 d ∷ getD b 1 d ∷ getD b 2 d ∷ getD b 3 d ∷ []) ≡ b
+  four-listed b d s = ext-getD d (getD b 0 d ∷ getD b 1 d ∷ getD b 2 d ∷ getD b 3 d ∷ []) b (sym s) (four _ refl refl refl refl)
 
   -- a turn that stores the four elements of an array
-  pub front-four :
-      (part : ℕ → List A) (xs b : List A) (i n : ℕ) (d : A)
-      → i < n → length xs ≡ 4 * n → take (4 * i) xs ≡ joined part i → b ≡ part i → ((j : ℕ) → length (part j) ≡ 4)
-      → take (4 * (i + 1)) (set (set (set (set xs (4 * i) (getD b 0 d)) (4 * i + 1) (getD b 1 d)) (4 * i + 2) (getD b 2 d)) (4 * i + 3) (getD b 3 d))
-      ≡ joined part (i + 1)
-  front-four part xs b i n d l h q e each =
+  pub filled-four :
+      (part : ℕ → List A) (xs₀ xs b : List A) (i n : ℕ) (d : A)
+      → i < n → length xs ≡ 4 * n → xs ≡ filled 4 part xs₀ i → b ≡ part i → ((j : ℕ) → length (part j) ≡ 4)
+      → set (set (set (set xs (4 * i) (getD b 0 d)) (4 * i + 1) (getD b 1 d)) (4 * i + 2) (getD b 2 d)) (4 * i + 3) (getD b 3 d)
+      ≡ filled 4 part xs₀ (i + 1)
+  filled-four part xs₀ xs b i n d l h q e each =
+      let long : length (joined part i) ≡ 4 * i = length-joined 4 part i (λ j k. each j) in
       let p1 : 4 * i + 1 ≡ suc (4 * i) = omega arith in
       let p2 : 4 * i + 2 ≡ suc (suc (4 * i)) = omega arith in
       let p3 : 4 * i + 3 ≡ suc (suc (suc (4 * i))) = omega arith in
+      let vs : List A = getD b 0 d ∷ getD b 1 d ∷ getD b 2 d ∷ getD b 3 d ∷ [] in
+      let whole : vs ≡ part i = four-listed b d (ap length e ∙ each i) ∙ e in
       rw (p1, p2, p3)
-      (front-sets 4 part xs (getD b 0 d ∷ getD b 1 d ∷ getD b 2 d ∷ getD b 3 d ∷ []) i (4 * i) q (listed (ap length e ∙ each i) ∙ e) refl refl (omega arith))
-    where
-      listed : length b ≡ 4 → (getD b 0 d ∷ getD b 1 d ∷ getD b 2 d ∷ getD b 3 d ∷ []) ≡ b
-      listed s = ext-getD d (getD b 0 d ∷ getD b 1 d ∷ getD b 2 d ∷ getD b 3 d ∷ []) b (sym s) (four _ refl refl refl refl)
+      (sets-eq vs xs (4 * i) (omega arith)
+      ∙ append-assoc (take (4 * i) xs) vs (drop (4 * i + 4) xs)
+      ∙ ap (λ (z : List A). take (4 * i) z ++ (vs ++ drop (4 * i + 4) z)) q
+      ∙ ap (λ (z : List A). z ++ (vs ++ drop (4 * i + 4) (filled 4 part xs₀ i))) (take-at (joined part i) (drop (4 * i) xs₀) (4 * i) long)
+      ∙ ap (λ (z : List A). joined part i ++ (vs ++ z))
+      (sym (drop-drop 4 (4 * i) (filled 4 part xs₀ i)) ∙ ap (drop 4) (drop-at (joined part i) (drop (4 * i) xs₀) (4 * i) long) ∙ drop-drop 4 (4 * i) xs₀)
+      ∙ seam 4 part xs₀ vs i whole)
 
   -- a turn that lends the part to a function that leaves src there
   pub front-lent :

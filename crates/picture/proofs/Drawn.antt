@@ -7,13 +7,14 @@ use mathlib.Core.List.{List, [], _∷_}
 use mathlib.Core.Logic.{⊎-elim}
 use native.Mathlib.Omega.{arith}
 use lib.Dec.{eqb}
-use lib.ListN.{length, getD}
+use lib.ListN.{length, getD, replicate}
 use Rattle.basics.specs.Choice.{pick}
 use Rattle.basics.specs.Bits.{bits, isSet, numberOf}
 use Rattle.basics.specs.Parts.{table, joined}
 use Rattle.basics.proofs.Choice.{bool-cases, and-left}
 use Rattle.basics.proofs.Computed.{agree-test}
 use Rattle.basics.proofs.Few.{four}
+use Rattle.basics.proofs.Filled.{filled, length-filled}
 use Rattle.basics.proofs.Parts.{length-table, length-joined, table-at, table-same, joined-same}
 use Rattle.cell.specs.declared.kind.BichromeCell.{BichromeCell}
 use Rattle.cell.specs.declared.kind.Cell.{Cell}
@@ -63,6 +64,13 @@ pub four-made :
 unfolding fourBy
 four-made byte pairs a b c d p q r s =
     rw (p, q, r, s) (line-parts pairs byte (byte % 4) (byte / 4 % 4) (byte / 16 % 4) (byte / 64 % 4) (omega arith) (omega arith) (omega arith) (omega arith))
+
+-- a line of which 32 cells are packed
+pub begun-long :
+    (bytes none left right both line : List ℕ) → line ≡ filled 4 (fourOf bytes none left right both) (replicate 160 0) 32 → length line ≡ 160
+begun-long bytes none left right both line e =
+    let h : 128 ≤ 160 = omega arith in
+    ap length e ∙ length-filled 4 (fourOf bytes none left right both) (replicate 160 0) 32 (λ x l. four-long _ _) h
 
 -- a line is 160 bytes long
 pub line-long :

@@ -1,9 +1,9 @@
 // The line drawer: a packed line of forty cells, built by value.
 ghost use mathlib.Core.Path.{_≡_};
 ghost use mathlib.Core.Bool.{_&&_};
-ghost use mathlib.Core.List.{[], _∷_};
-ghost use Prim.Native.Nat.{_<_, _%_};
-ghost use lib.ListN.{getD};
+ghost use mathlib.Core.List.{[], _∷_, _++_};
+ghost use Prim.Native.Nat.{_*_, _%_, _≤_, _<_};
+ghost use lib.ListN.{length, getD, take, drop};
 ghost use Rattle.basics.specs.Parts.{table, joined};
 ghost use Rattle.picture.specs.Lines.{underlineShown, linedByte, linedOn, plainOn, bytesOn, fourBy, fourOf, lineOn};
 use cell::decode::decode;
@@ -93,7 +93,30 @@ fn four(by: u8, none: u8, left: u8, right: u8, both: u8) -> [u8; 4]
     ]
 }
 
-// The packed line of forty effective bytes. Thirty-two cells are a whole number of vectors, and so the rest is a loop of its own.
+// The packed bytes of the cells from `first` up to `end`, put in their places of a line that has those of the cells before them.
+fn pack(
+    line: &mut [u8; 160],
+    bytes: [u8; 40],
+    none: &[u8; 40],
+    left: &[u8; 40],
+    right: &[u8; 40],
+    both: &[u8; 40],
+    first: usize,
+    end: usize,
+)
+    requires { ⌜ (length (now line) ≡ 160) × (first ≤ end) × (end ≤ 40) × (take (4 * first) (now line) ≡ joined (fourOf bytes (now none) (now left) (now right) (now both)) first) ⌝ }
+    ensures { λ _. ⌜ now (line .exit) ≡ joined (fourOf bytes (now (none .entry)) (now (left .entry)) (now (right .entry)) (now (both .entry))) end ++ drop (4 * end) (now (line .entry)) ⌝ }
+{
+    for x in first..end {
+        let four = four(bytes[x], none[x], left[x], right[x], both[x]);
+        line[4 * x] = four[0];
+        line[4 * x + 1] = four[1];
+        line[4 * x + 2] = four[2];
+        line[4 * x + 3] = four[3];
+    }
+}
+
+// The packed line of forty effective bytes. Thirty-two cells are a whole number of vectors, and the rest is packed apart.
 fn packed_line(
     bytes: [u8; 40],
     none: &[u8; 40],
@@ -104,20 +127,8 @@ fn packed_line(
     ensures { λ r. ⌜ r ≡ joined (fourOf bytes (now (none .entry)) (now (left .entry)) (now (right .entry)) (now (both .entry))) 40 ⌝ }
 {
     let mut line = [0u8; 160];
-    for x in 0..32 {
-        let four = four(bytes[x], none[x], left[x], right[x], both[x]);
-        line[4 * x] = four[0];
-        line[4 * x + 1] = four[1];
-        line[4 * x + 2] = four[2];
-        line[4 * x + 3] = four[3];
-    }
-    for x in 32..40 {
-        let four = four(bytes[x], none[x], left[x], right[x], both[x]);
-        line[4 * x] = four[0];
-        line[4 * x + 1] = four[1];
-        line[4 * x + 2] = four[2];
-        line[4 * x + 3] = four[3];
-    }
+    pack(&mut line, bytes, none, left, right, both, 0, 32);
+    pack(&mut line, bytes, none, left, right, both, 32, 40);
     line
 }
 
