@@ -10,7 +10,7 @@ use borrow.Author.Tests.{lt-ltb, le-ltb, le-leb, lt-leb, eq-eqb, ne-eqb, ltb-tru
 use Rattle.basics.specs.Choice.{pick}
 use Rattle.basics.proofs.Choice.{and-left, and-right, and-both, or-cases, or-left, or-right}
 use Rattle.address.specs.declared.triple.Triple.{Triple}
-use Rattle.address.specs.Triples.{legalX, legalY, onPage, legal}
+use Rattle.address.specs.Triples.{legalX, legalY, onPage, legal, legalIn}
 use Rattle.address.specs.Places.{placeOf}
 use Rattle.address.specs.Rows.{rowY}
 use Rattle.address.specs.Slices.{sliceX, sliceY, slicePlaceOf}
@@ -61,26 +61,27 @@ module _ (x y : ℕ) where
   unfolding onPage
   facts-page h r = and-both _ _ (lt-ltb x 40 h) (facts-y y r)
 
-module _ (t : Triple) where
-  pub bad-column : 40 ≤ t .x → legal t ≡ false
-  unfolding legal onPage
+-- on a board of so many blocks
+module _ (n : ℕ) (t : Triple) where
+  pub bad-column : 40 ≤ t .x → legalIn n t ≡ false
+  unfolding legalIn onPage
   bad-column h = simp (le-ltb _ _ h)
 
-  pub bad-row : t .x < 40 → legalY (t .y) ≡ false → legal t ≡ false
-  unfolding legal onPage
+  pub bad-row : t .x < 40 → legalY (t .y) ≡ false → legalIn n t ≡ false
+  unfolding legalIn onPage
   bad-row h e = simp (lt-ltb _ _ h, e)
 
-  pub good-row : t .x < 40 → legalY (t .y) ≡ true → legal t ≡ ltb (t .z) 16
-  unfolding legal onPage
+  pub good-row : t .x < 40 → legalY (t .y) ≡ true → legalIn n t ≡ ltb (t .z) n
+  unfolding legalIn onPage
   good-row h e = simp (lt-ltb _ _ h, e)
 
-  pub legal-page : legal t ≡ true → onPage (t .x) (t .y) ≡ true
-  unfolding legal
+  pub legal-page : legalIn n t ≡ true → onPage (t .x) (t .y) ≡ true
+  unfolding legalIn
   legal-page e = and-left _ _ e
 
-  pub legal-block : legal t ≡ true → t .z < 16
-  unfolding legal
-  legal-block e = ltb-true (t .z) 16 (and-right (onPage (t .x) (t .y)) _ e)
+  pub legal-block : legalIn n t ≡ true → t .z < n
+  unfolding legalIn
+  legal-block e = ltb-true (t .z) n (and-right (onPage (t .x) (t .y)) _ e)
 
 -- the three rules of a place
 module _ (x y z : ℕ) where

@@ -1,5 +1,5 @@
 -- What the page claims of places, for every Z: different legal triples have different places, bytes 40..63 of a block are the place
--- of none, and a legal triple's place lies in its own block. For the 16 blocks of the EF9345: a legal place is one of the 16,384.
+-- of none, and a legal triple's place lies in its own block. On a board of n blocks a legal place is one of its bytes.
 -- Assumes nothing.
 use Prim.Native.Nat.{ℕ, _+_, _-_, _*_, _/_, _%_, _≤_, _<_}
 use mathlib.Core.Path.{_≡_}
@@ -8,7 +8,8 @@ use mathlib.Core.Logic.{⊎-elim}
 use native.Mathlib.Omega.{arith}
 use Rattle.basics.proofs.Choice.{lt-or-le, eq-or-ne}
 use Rattle.address.specs.declared.triple.Triple.{Triple}
-use Rattle.address.specs.Triples.{onPage, legal}
+use Rattle.address.specs.Triples.{onPage, legalIn}
+use Rattle.address.specs.Boards.{bytesOf}
 use Rattle.address.specs.Places.{placeOf, blockOf}
 use Rattle.address.proofs.Laws.{triple, page-column, page-row, legal-page, legal-block, place-left, place-service, place-right}
 
@@ -75,18 +76,18 @@ pub blocks-differ : (z i j : ℕ) → i < 4 → j < 4 → blockOf z i ≡ blockO
 blocks-differ z i j p q e = omega arith
 
 -- two legal triples with one place are one
-pub legal-injective : (t u : Triple) → legal t ≡ true → legal u ≡ true → placeOf (t .x) (t .y) (t .z) ≡ placeOf (u .x) (u .y) (u .z) → t ≡ u
-legal-injective t u p q e =
-    let s = place-injective _ _ _ _ _ _ (legal-page t p) (legal-page u q) e in
+pub legal-injective : (n : ℕ) (t u : Triple) → legalIn n t ≡ true → legalIn n u ≡ true → placeOf (t .x) (t .y) (t .z) ≡ placeOf (u .x) (u .y) (u .z) → t ≡ u
+legal-injective n t u p q e =
+    let s = place-injective _ _ _ _ _ _ (legal-page n t p) (legal-page n u q) e in
     triple (s .0) (s .1) (s .2)
 
--- a legal triple's place is one of the 16,384
-pub legal-place : (t : Triple) → legal t ≡ true → placeOf (t .x) (t .y) (t .z) < 16384
-legal-place t e = omega (arith, legal-block t e, place-block (t .x) (t .y) (t .z) (legal-page t e) .1)
+-- a legal triple's place is one of the board's bytes
+pub legal-place : (n : ℕ) (t : Triple) → legalIn n t ≡ true → placeOf (t .x) (t .y) (t .z) < bytesOf n
+legal-place n t e = omega (arith, legal-block n t e, place-block (t .x) (t .y) (t .z) (legal-page n t e) .1)
 
--- so is the place of any X below 40, Y below 32 and block below 16
-pub place-fits : (x y z : ℕ) → x < 40 → y < 32 → z < 16 → placeOf x y z < 16384
-place-fits x y z p q r =
+-- so is the place of any X below 40, Y below 32 and block of the board
+pub place-fits : (n x y z : ℕ) → x < 40 → y < 32 → z < n → placeOf x y z < bytesOf n
+place-fits n x y z p q r =
     ⊎-elim (λ l. omega (arith, place-left x y z l))
     (λ l.
     ⊎-elim (λ e. omega (arith, place-service x y z l e)) (λ n. omega (arith, place-right x y z l n)) (eq-or-ne y 0))

@@ -1,7 +1,9 @@
 -- Where a byte is kept.
 -- Assumes nothing.
 use Prim.Native.Nat.{ℕ, _+_, _-_, _*_, _/_, _%_}
+use mathlib.Core.List.{List}
 use lib.Dec.{ltb, eqb}
+use lib.ListN.{getD}
 use Rattle.basics.specs.Choice.{pick}
 
 -- X below 32: 1024Z + 32Y + X. X from 32, Y = 0: 1024Z + X. X from 32, Y from 8: 1024Z + 8Y + X − 32
@@ -14,3 +16,7 @@ placeOf x y z =
 -- blocks Z, Z+1, Z+2, counted modulo 4 inside the district of four blocks: the one i after Z
 abbrev pub blockOf : ℕ → ℕ → ℕ
 blockOf z i = 4 * (z / 4) + (z + i) % 4
+
+-- the byte at a place of private memory, or of the ROM: every reading goes through this
+abbrev pub byteAt : List ℕ → ℕ → ℕ
+byteAt bytes p = getD bytes p 0

@@ -3,6 +3,7 @@
 use Prim.Native.Nat.{ℕ}
 use mathlib.Core.Bool.{Bool, _&&_, _||_}
 use lib.Dec.{ltb, leb, eqb}
+use Rattle.address.specs.Boards.{boardBlocks}
 use Rattle.address.specs.declared.triple.Triple.{Triple}
 
 -- X 0..39
@@ -17,5 +18,10 @@ legalY y = eqb y 0 || (leb 8 y && ltb y 32)
 unfoldable pub onPage : ℕ → ℕ → Bool
 onPage x y = legalX x && legalY y
 
-unfoldable pub legal : Triple → Bool
-legal t = onPage (t .x) (t .y) && ltb (t .z) 16
+-- legal on a board of so many blocks
+unfoldable pub legalIn : ℕ → Triple → Bool
+legalIn blocks t = onPage (t .x) (t .y) && ltb (t .z) blocks
+
+-- Z 0..15
+abbrev pub legal : Triple → Bool
+legal t = legalIn boardBlocks t

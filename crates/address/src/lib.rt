@@ -1,5 +1,5 @@
-// Where a byte is kept: pointers, legal triples, places, the way back, slices and screen rows.
-pub mod back;
+// Where a byte is kept: the board, pointers, legal triples, places, slices and screen rows.
+pub mod board;
 pub mod place;
 pub mod pointer;
 pub mod row;

@@ -1,6 +1,7 @@
 // A triple X, Y, Z, and whether it is legal.
 ghost use mathlib.Core.Path.{_≡_};
 ghost use Rattle.address.specs.Triples.{legalY, legal};
+use crate::board::BLOCKS;
 
 pub struct Triple {
     pub x: u8,
@@ -29,7 +30,7 @@ pub fn is_legal(t: Triple) -> bool
         return false;
     }
     if is_legal_y(t.y) {
-        return t.z < 16;
+        return t.z < BLOCKS;
     }
     false
 }

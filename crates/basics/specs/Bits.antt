@@ -18,6 +18,6 @@ abbrev pub bits : ℕ → ℕ → ℕ → ℕ
 bits k w n = n / 2 ^ k % 2 ^ w
 
 -- the number of n bits whose bit k is set where f k holds
-unfoldable pub numberOf : (ℕ → Bool) → ℕ → ℕ
-numberOf f zero = 0
-numberOf f (suc n) = numberOf f n + 2 ^ n * oneIf (f n)
+unfoldable pub fromBits : (ℕ → Bool) → ℕ → ℕ
+fromBits f zero = 0
+fromBits f (suc n) = fromBits f n + 2 ^ n * oneIf (f n)

@@ -6,16 +6,16 @@ use Rattle.address.proofs.triple.is_legal.Statement.{statement}
 use Rattle.address.proofs.triple.is_legal.Tie as tie
 
 returns : tie.Need-returns
-returns c = sym (bad-column _ (c .if1 .taken))
+returns c = sym (bad-column _ _ (c .if1 .taken))
 
 is-legal-y-requires : tie.Need-is-legal-y-requires
 is-legal-y-requires c κs = search needs
 
 returns-2 : tie.Need-returns-2
-returns-2 c = sym (good-row _ (omega arith) (sym (c .before .before .is-legal-y .ensures) ∙ c .before .if2 .taken))
+returns-2 c = sym (good-row _ _ (omega arith) (sym (c .before .before .is-legal-y .ensures) ∙ c .before .if2 .taken))
 
 returns-3 : tie.Need-returns-3
-returns-3 c = sym (bad-row _ (omega arith) (sym (c .before .is-legal-y .ensures) ∙ c .if2 .left))
+returns-3 c = sym (bad-row _ _ (omega arith) (sym (c .before .is-legal-y .ensures) ∙ c .if2 .left))
 
 pub is-legal-spec : {M : Type 1} → statement M
 is-legal-spec = tie.close (tie.spec returns is-legal-y-requires returns-2 returns-3)
