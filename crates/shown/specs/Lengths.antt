@@ -1,0 +1,24 @@
+-- The lengths of the ROM and of the picture's parts, in bytes. What holds of a line, a row and a picture holds for every number k of bytes
+-- of a column.
+-- Assumes nothing.
+use Prim.Native.Nat.{ℕ, _*_}
+
+-- 5: ROM is not 6,400 bytes: five sets of 128 characters of ten slices
+abbrev pub romBytes : ℕ
+romBytes = 5 * 1280
+
+-- a column is a cell of eight pixels, two pixels a byte
+abbrev pub columnBytes : ℕ
+columnBytes = 4
+
+-- One packed line is 160 bytes: forty columns
+abbrev pub lineBytes : ℕ → ℕ
+lineBytes k = 40 * k
+
+-- A row is 1,600 bytes: ten lines
+abbrev pub rowBytes : ℕ → ℕ
+rowBytes k = 10 * lineBytes k
+
+-- 6: picture is not 40,000 bytes: 25 rows
+abbrev pub pictureBytes : ℕ → ℕ
+pictureBytes k = 25 * rowBytes k

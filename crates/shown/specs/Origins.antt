@@ -1,0 +1,13 @@
+-- Where the page stands in private memory.
+-- Assumes nothing.
+use Prim.Native.Nat.{ℕ, _+_, _*_}
+use Rattle.basics.specs.Bits.{bit, bits}
+use Rattle.shown.specs.declared.Shown.{Shown}
+
+-- YOR is ROR bits 4..0
+abbrev pub yorOf : Shown → ℕ
+yorOf shown = bits 0 5 (shown .ror)
+
+-- the first block Z is even, its Z3, Z2, Z1 being ROR bits 7, 6, 5
+abbrev pub firstBlock : Shown → ℕ
+firstBlock shown = 8 * bit 7 (shown .ror) + 4 * bit 6 (shown .ror) + 2 * bit 5 (shown .ror)

@@ -1,0 +1,19 @@
+-- Refusals 7 and 8 of a draw, which the registers alone decide.
+-- Assumes nothing.
+use mathlib.Core.Bool.{Bool, not, _&&_, _||_}
+use lib.Dec.{ltb}
+use Rattle.basics.specs.Bits.{isSet}
+use Rattle.shown.specs.declared.Shown.{Shown}
+use Rattle.shown.specs.Origins.{yorOf}
+
+-- 7: TGS bits 7, 6 or 5, or PAT bit 7, not zero
+unfoldable pub refused7 : Shown → Bool
+refused7 shown = isSet 7 (shown .tgs) || (isSet 6 (shown .tgs) || (isSet 5 (shown .tgs) || isSet 7 (shown .pat)))
+
+-- 8: origin YOR below 8
+unfoldable pub refused8 : Shown → Bool
+refused8 shown = ltb (yorOf shown) 8
+
+-- a draw would get neither 7 nor 8
+unfoldable pub canDraw : Shown → Bool
+canDraw shown = not (refused7 shown) && not (refused8 shown)
