@@ -1,13 +1,17 @@
--- Laws of the slices of twenty lines, computed over the twenty.
+-- Laws of the slices of twenty lines, computed over the twenty, and of the line that an underline is on.
 -- Assumes nothing.
 use Prim.Native.Nat.{ℕ, _+_, _-_, _/_, _<_}
-use mathlib.Core.Path.{_≡_, refl, _∙_}
-use mathlib.Core.Bool.{Bool, true, false}
+use mathlib.Core.Path.{_≡_, refl, sym, ap, _∙_}
+use mathlib.Core.Bool.{Bool, true, false, _&&_}
+use lib.Dec.{eqb}
 use lib.ListN.{getD}
 use Rattle.basics.proofs.Computed.{agree}
 use Rattle.cell.specs.Cells.{alphanumericOf}
-use Rattle.cell.specs.Slices.{alphanumericTwenty, otherTwenty, sliceOfTwenty, bichromeSlice}
+use Rattle.cell.specs.Slices.{alphanumericTwenty, otherTwenty, sliceOfTwenty, bichromeSlice, sliceShown}
+use Rattle.cell.specs.HowPairs.{underlineOf, underlinedOn}
 use Rattle.cell.specs.declared.kind.BichromeCell.{BichromeCell}
+use Rattle.cell.specs.declared.kind.Cell.{Cell}
+use Rattle.cell.specs.declared.kind.Cell.the-variants.{Bichrome}
 
 pub twenty-alphanumeric : (line : ℕ) → line < 20 → (line - 1) / 2 ≡ sliceOfTwenty true line
 unfolding sliceOfTwenty
@@ -30,3 +34,13 @@ module _ (cell : BichromeCell) (lower : Bool) (n : ℕ) where
   pub slice-upper : cell .tall ≡ true → lower ≡ false → sliceOfTwenty (alphanumericOf (cell .set)) n ≡ bichromeSlice cell lower n
   unfolding bichromeSlice
   slice-upper e l = rw (e, l)
+
+-- where an underlined cell is underlined
+pub underlined-where :
+    (cell : Cell) (b : BichromeCell) (lower : Bool) (n s : ℕ)
+    → cell ≡ Bichrome b → b .underline ≡ true → s ≡ bichromeSlice b lower n → eqb s 9 ≡ underlinedOn cell lower n
+unfolding underlinedOn
+underlined-where cell b lower n s e u f =
+    ap (λ (k : ℕ). eqb k 9) f
+    ∙ ap (λ (t : Bool). t && eqb (bichromeSlice b lower n) 9) (sym u)
+    ∙ ap (λ (c : Cell). underlineOf c && eqb (sliceShown c lower n) 9) (sym e)

@@ -1,4 +1,4 @@
 pub mod Codes
 pub mod Heights
 pub mod Bytes
-pub mod Lines
+pub mod Drawn

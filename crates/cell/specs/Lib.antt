@@ -1,4 +1,4 @@
 pub mod Cells
 pub mod Slices
 pub mod Pixels
-pub mod Looks
+pub mod HowPairs

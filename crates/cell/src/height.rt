@@ -1,12 +1,11 @@
-// Which slice a line of a cell shows.
+// Which slice a line of a bichrome cell shows, and where it is underlined.
 ghost use mathlib.Core.Path.{_≡_};
 ghost use Prim.Native.Nat.{_<_};
-ghost use Rattle.cell.specs.Slices.{sliceOfTwenty, bichromeSlice, quadrichromeSlice, sliceShown};
+ghost use Rattle.cell.specs.Slices.{sliceOfTwenty, bichromeSlice};
+ghost use Rattle.cell.specs.HowPairs.{underlinedOn};
 use crate::decode::is_alphanumeric;
 use crate::kind::BichromeCell;
 use crate::kind::Cell;
-use crate::kind::QuadrichromeCell;
-use crate::kind::Resolution;
 
 // The slice of one of the twenty lines of a double height cell.
 pub fn slice_of_twenty(alphanumeric: bool, line: u8) -> u8
@@ -38,24 +37,18 @@ pub fn bichrome_slice(cell: BichromeCell, lower: bool, n: u8) -> u8
     slice_of_twenty(alphanumeric, n)
 }
 
-pub fn quadrichrome_slice(cell: QuadrichromeCell, n: u8) -> u8
+// Where the line shows slice 9 the cell's underline is.
+pub fn is_underlined_on(cell: Cell, lower: bool, n: u8) -> bool
     requires { ⌜ n < 10 ⌝ }
-    ensures { λ r. ⌜ r ≡ quadrichromeSlice cell n ⌝ }
-{
-    let resolution = cell.resolution;
-    match resolution {
-        Resolution::High => n,
-        Resolution::Low(k) => k % 2 * 5 + n / 2,
-    }
-}
-
-// The slice that line n of a cell shows.
-pub fn slice_shown(cell: Cell, lower: bool, n: u8) -> u8
-    requires { ⌜ n < 10 ⌝ }
-    ensures { λ r. ⌜ r ≡ sliceShown cell lower n ⌝ }
+    ensures { λ r. ⌜ r ≡ underlinedOn cell lower n ⌝ }
 {
     match cell {
-        Cell::Bichrome(b) => bichrome_slice(b, lower, n),
-        Cell::Quadrichrome(q) => quadrichrome_slice(q, n),
+        Cell::Bichrome(b) => {
+            if b.underline {
+                return bichrome_slice(b, lower, n) == 9;
+            }
+            false
+        }
+        Cell::Quadrichrome(_) => false,
     }
 }

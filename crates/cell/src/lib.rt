@@ -1,7 +1,6 @@
-// A cell of the 24-bit code: its attributes, the slice that each line shows, and the four packed bytes of a line.
+// A cell of the 24-bit code: its attributes, the slice that each line shows, and the packed pairs that its lines are made of.
 pub mod decode;
 pub mod height;
 pub mod kind;
-pub mod line;
-pub mod look;
+pub mod pairs;
 pub mod width;

@@ -1,51 +1,46 @@
-// What is the same for all ten lines of a cell, worked out once: a packed pair of pixels for each two bits of a slice, and what
-// is still to be done to the slice byte itself.
+// What is the same for all ten lines of a cell, worked out once: a packed pair of pixels for each two bits of a slice.
 ghost use mathlib.Core.Path.{_≡_};
+ghost use mathlib.Core.Bool.{not};
+ghost use lib.Dec.{eqb};
 ghost use Rattle.basics.specs.Choice.{oneIf};
 ghost use Rattle.cell.specs.Pixels.{concealed, flashed, inverted, inked, dyed};
-ghost use Rattle.cell.specs.Looks.{bichromePairs, quadrichromePairs, rankPair, lookOf};
+ghost use Rattle.cell.specs.HowPairs.{bichromePairs, quadrichromePairs, rankPair, cellPairs};
 use crate::kind::BichromeCell;
 use crate::kind::Cell;
 use colour::Colour;
 use colour::packed;
 use colour::palette::of_rank;
-
-pub struct Look {
-    // By the two bits of the slice, the left pixel's the low one.
-    pub pairs: [u8; 4],
-    pub underline: bool,
-    pub wide: bool,
-}
+use shown::Shown;
 
 // Conceal with PAT 3 makes a pixel's bit 0.
-pub fn conceal(cell: BichromeCell, pat: u8, bit: bool) -> bool
-    ensures { λ r. ⌜ r ≡ concealed cell pat bit ⌝ }
+pub fn conceal(cell: BichromeCell, shown: Shown, bit: bool) -> bool
+    ensures { λ r. ⌜ r ≡ concealed cell shown bit ⌝ }
 {
     if cell.conceal {
-        if pat / 8 % 2 == 1 {
+        if shown.pat / 8 % 2 == 1 {
             return false;
         }
     }
     bit
 }
 
-fn one_if(bit: bool) -> u8
-    ensures { λ r. ⌜ r ≡ oneIf bit ⌝ }
+// The phase differs from the negative bit.
+fn differs(phase: u8, negative: bool) -> bool
+    ensures { λ r. ⌜ r ≡ not (eqb phase (oneIf negative)) ⌝ }
 {
-    if bit {
-        return 1;
+    if negative {
+        return phase != 1;
     }
-    0
+    phase != 0
 }
 
 // Flash with PAT 6 makes it 0 when the phase differs from the negative bit.
-pub fn flash(cell: BichromeCell, pat: u8, phase: u8, bit: bool) -> bool
-    ensures { λ r. ⌜ r ≡ flashed cell pat phase bit ⌝ }
+pub fn flash(cell: BichromeCell, shown: Shown, bit: bool) -> bool
+    ensures { λ r. ⌜ r ≡ flashed cell shown bit ⌝ }
 {
-    let steady = one_if(cell.negative);
     if cell.flash {
-        if pat / 64 % 2 == 1 {
-            if phase != steady {
+        if shown.pat / 64 % 2 == 1 {
+            if differs(shown.phase, cell.negative) {
                 return false;
             }
         }
@@ -74,20 +69,20 @@ pub fn ink(cell: BichromeCell, bit: bool) -> Colour
 }
 
 // The colour of a pixel from its bit after underlining: the rest of the page's steps, in their order.
-pub fn dye(cell: BichromeCell, pat: u8, phase: u8, bit: bool) -> Colour
-    ensures { λ r. ⌜ r ≡ dyed cell pat phase bit ⌝ }
+pub fn dye(cell: BichromeCell, shown: Shown, bit: bool) -> Colour
+    ensures { λ r. ⌜ r ≡ dyed cell shown bit ⌝ }
 {
     ink(
         cell,
-        invert(cell, flash(cell, pat, phase, conceal(cell, pat, bit))),
+        invert(cell, flash(cell, shown, conceal(cell, shown, bit))),
     )
 }
 
-pub fn bichrome_pairs(cell: BichromeCell, pat: u8, phase: u8) -> [u8; 4]
-    ensures { λ r. ⌜ r ≡ bichromePairs cell pat phase ⌝ }
+pub fn bichrome_pairs(cell: BichromeCell, shown: Shown) -> [u8; 4]
+    ensures { λ r. ⌜ r ≡ bichromePairs cell shown ⌝ }
 {
-    let off = dye(cell, pat, phase, false);
-    let on = dye(cell, pat, phase, true);
+    let off = dye(cell, shown, false);
+    let on = dye(cell, shown, true);
     [
         packed(off, off),
         packed(on, off),
@@ -115,19 +110,11 @@ pub fn quadrichrome_pairs(palette: u8) -> [u8; 4]
     ]
 }
 
-pub fn look_of(cell: Cell, pat: u8, phase: u8) -> Look
-    ensures { λ r. ⌜ r ≡ lookOf cell pat phase ⌝ }
+pub fn cell_pairs(cell: Cell, shown: Shown) -> [u8; 4]
+    ensures { λ r. ⌜ r ≡ cellPairs cell shown ⌝ }
 {
     match cell {
-        Cell::Bichrome(b) => Look {
-            pairs: bichrome_pairs(b, pat, phase),
-            underline: b.underline,
-            wide: b.wide,
-        },
-        Cell::Quadrichrome(q) => Look {
-            pairs: quadrichrome_pairs(q.palette),
-            underline: false,
-            wide: false,
-        },
+        Cell::Bichrome(b) => bichrome_pairs(b, shown),
+        Cell::Quadrichrome(q) => quadrichrome_pairs(q.palette),
     }
 }

@@ -1,7 +1,7 @@
 // Double width: four bits of a slice become eight.
 ghost use mathlib.Core.Path.{_≡_};
 ghost use mathlib.Core.Bool.{true};
-ghost use Rattle.basics.specs.Bits.{numberOf};
+ghost use Rattle.basics.specs.Bits.{fromBits};
 ghost use Rattle.cell.specs.Pixels.{takenBit};
 
 // Each bit of a nibble twice.
@@ -32,7 +32,7 @@ fn index(nibble: u8) -> usize
 
 // The left half shows slice bits 0 to 3, the right half 4 to 7.
 pub fn doubled(right: bool, slice: u8) -> u8
-    ensures { λ r. ⌜ r ≡ numberOf (takenBit true right slice) 8 ⌝ }
+    ensures { λ r. ⌜ r ≡ fromBits (takenBit true right slice) 8 ⌝ }
 {
     if right {
         return DOUBLED[index(slice / 16 % 16)];

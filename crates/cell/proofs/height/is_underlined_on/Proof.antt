@@ -1,6 +1,8 @@
+use Rattle.cell.proofs.Heights.{underlined-where}
+use Rattle.cell.specs.HowPairs.{underlinedOn}
 use borrow.Author.Needs.{needs}
-use Rattle.cell.proofs.height.slice_shown.Statement.{statement}
-use Rattle.cell.proofs.height.slice_shown.Tie as tie
+use Rattle.cell.proofs.height.is_underlined_on.Statement.{statement}
+use Rattle.cell.proofs.height.is_underlined_on.Tie as tie
 
 enum-known-cell : tie.Need-enum-known-cell
 enum-known-cell c = search needs
@@ -8,25 +10,19 @@ enum-known-cell c = search needs
 bichrome-slice-requires : tie.Need-bichrome-slice-requires
 bichrome-slice-requires c κs = search needs
 
-enum-known-cell-2 : tie.Need-enum-known-cell-2
-enum-known-cell-2 c = search needs
-
-quadrichrome-slice-requires : tie.Need-quadrichrome-slice-requires
-quadrichrome-slice-requires c κs = search needs
-
 returns : tie.Need-returns
-returns c = rw (c .before .before .cell .given .1) (c .bichrome-slice .ensures)
+returns c = underlined-where _ _ _ _ _ (c .before .before .before .cell .given .1) (c .before .if1 .taken) (c .bichrome-slice .ensures)
+
+enum-told : tie.Need-enum-told
+enum-told c = search needs
 
 returns-2 : tie.Need-returns-2
-returns-2 c = rw (c .before .before .cell2 .given .1) (c .quadrichrome-slice .ensures)
+unfolding underlinedOn
+returns-2 c = rw (c .before .before .cell .given .1, c .if1 .left)
 
-pub slice-shown-spec : {M : Type 1} → statement M
-slice-shown-spec =
-    tie.close
-    (tie.spec
-    enum-known-cell
-    bichrome-slice-requires
-    enum-known-cell-2
-    quadrichrome-slice-requires
-    returns
-    returns-2)
+returns-3 : tie.Need-returns-3
+unfolding underlinedOn
+returns-3 c = rw (c .enum-told .given .1)
+
+pub is-underlined-on-spec : {M : Type 1} → statement M
+is-underlined-on-spec = tie.close (tie.spec enum-known-cell bichrome-slice-requires returns enum-told returns-2 returns-3)

@@ -1,8 +1,8 @@
-use Rattle.cell.specs.Looks.{bichromePairs}
+use Rattle.cell.specs.HowPairs.{bichromePairs}
 use Rattle.basics.specs.Parts.{joined}
 use borrow.Author.Needs.{needs}
-use Rattle.cell.proofs.look.bichrome_pairs.Statement.{statement}
-use Rattle.cell.proofs.look.bichrome_pairs.Tie as tie
+use Rattle.cell.proofs.pairs.bichrome_pairs.Statement.{statement}
+use Rattle.cell.proofs.pairs.bichrome_pairs.Tie as tie
 
 dye-requires : tie.Need-dye-requires
 dye-requires c κs = search needs

@@ -1,6 +1,6 @@
 use borrow.Author.Needs.{needs}
-use Rattle.cell.proofs.look.look_of.Statement.{statement}
-use Rattle.cell.proofs.look.look_of.Tie as tie
+use Rattle.cell.proofs.pairs.cell_pairs.Statement.{statement}
+use Rattle.cell.proofs.pairs.cell_pairs.Tie as tie
 
 enum-known-cell : tie.Need-enum-known-cell
 enum-known-cell c = search needs
@@ -20,8 +20,8 @@ returns c = rw (c .before .before .cell .given .1, c .bichrome-pairs .ensures)
 returns-2 : tie.Need-returns-2
 returns-2 c = rw (c .before .before .cell2 .given .1, c .quadrichrome-pairs .ensures)
 
-pub look-of-spec : {M : Type 1} → statement M
-look-of-spec =
+pub cell-pairs-spec : {M : Type 1} → statement M
+cell-pairs-spec =
     tie.close
     (tie.spec
     enum-known-cell

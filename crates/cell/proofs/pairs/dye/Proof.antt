@@ -1,6 +1,6 @@
 use borrow.Author.Needs.{needs}
-use Rattle.cell.proofs.look.dye.Statement.{statement}
-use Rattle.cell.proofs.look.dye.Tie as tie
+use Rattle.cell.proofs.pairs.dye.Statement.{statement}
+use Rattle.cell.proofs.pairs.dye.Tie as tie
 
 conceal-requires : tie.Need-conceal-requires
 conceal-requires c κs = search needs

@@ -1,6 +1,6 @@
 use Rattle.cell.specs.Pixels.{inked}
-use Rattle.cell.proofs.look.ink.Statement.{statement}
-use Rattle.cell.proofs.look.ink.Tie as tie
+use Rattle.cell.proofs.pairs.ink.Statement.{statement}
+use Rattle.cell.proofs.pairs.ink.Tie as tie
 
 returns : tie.Need-returns
 unfolding inked

@@ -1,6 +1,6 @@
 use Rattle.cell.specs.Pixels.{inverted}
-use Rattle.cell.proofs.look.invert.Statement.{statement}
-use Rattle.cell.proofs.look.invert.Tie as tie
+use Rattle.cell.proofs.pairs.invert.Statement.{statement}
+use Rattle.cell.proofs.pairs.invert.Tie as tie
 
 returns : tie.Need-returns
 unfolding inverted

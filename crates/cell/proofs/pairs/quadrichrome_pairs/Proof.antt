@@ -1,8 +1,8 @@
-use Rattle.cell.specs.Looks.{quadrichromePairs}
+use Rattle.cell.specs.HowPairs.{quadrichromePairs}
 use Rattle.basics.specs.Parts.{joined}
 use borrow.Author.Needs.{needs}
-use Rattle.cell.proofs.look.quadrichrome_pairs.Statement.{statement}
-use Rattle.cell.proofs.look.quadrichrome_pairs.Tie as tie
+use Rattle.cell.proofs.pairs.quadrichrome_pairs.Statement.{statement}
+use Rattle.cell.proofs.pairs.quadrichrome_pairs.Tie as tie
 
 rank-pair-requires : tie.Need-rank-pair-requires
 rank-pair-requires c κs = search needs

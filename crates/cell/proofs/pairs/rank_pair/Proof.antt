@@ -1,6 +1,6 @@
 use borrow.Author.Needs.{needs}
-use Rattle.cell.proofs.look.rank_pair.Statement.{statement}
-use Rattle.cell.proofs.look.rank_pair.Tie as tie
+use Rattle.cell.proofs.pairs.rank_pair.Statement.{statement}
+use Rattle.cell.proofs.pairs.rank_pair.Tie as tie
 
 of-rank-requires : tie.Need-of-rank-requires
 of-rank-requires c κs = search needs
