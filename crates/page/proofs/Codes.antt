@@ -1,4 +1,4 @@
--- Laws of a row's code bytes: their places are in memory, and the bits of ROR as the code takes them.
+-- Laws of a row's code bytes: their places are in memory, and the attributes of a bichrome cell.
 -- Assumes nothing.
 use Prim.Native.Nat.{ℕ, _*_, _/_, _%_, _<_, _≤_}
 use mathlib.Core.Path.{_≡_, _∙_, ap}
@@ -8,22 +8,19 @@ use native.Mathlib.Omega.{arith}
 use borrow.Author.Tests.{le-leb, lt-leb}
 use Rattle.basics.specs.Bits.{isSet}
 use Rattle.basics.specs.Parts.{table}
-use Rattle.basics.proofs.Computed.{agree}
+use Rattle.address.specs.Boards.{bytesOf}
 use Rattle.address.specs.Places.{placeOf, blockOf}
 use Rattle.address.proofs.Places.{place-fits}
 use Rattle.cell.specs.Cells.{isQuadrichrome}
 use Rattle.cell.proofs.Codes.{top-two}
 use Rattle.address.specs.Rows.{rowY}
-use Rattle.page.specs.Codes.{yorOf, firstBlock, codeOf, rowBuffer}
+use Rattle.shown.specs.declared.Shown.{Shown}
+use Rattle.shown.specs.Origins.{yorOf, firstBlock}
+use Rattle.page.specs.Codes.{codeOf, rowBuffer}
 
-pub code-fits : (x y z i p b : ℕ) → p ≡ placeOf x y b → b ≡ blockOf z i → x < 40 → y < 32 → z < 16 → p < 16384
-code-fits x y z i p b e f hx hy hz = rw e (place-fits x y b hx hy (omega arith))
-
-pub first-block : (ror : ℕ) → ror < 256 → ror / 32 * 2 ≡ firstBlock ror
-first-block = agree (λ ror. ror / 32 * 2) (λ ror. firstBlock ror) 256 tt
-
-pub yor-bits : (ror : ℕ) → ror % 32 ≡ yorOf ror
-yor-bits ror = omega arith
+-- on a board of n blocks
+pub code-fits : (n x y z i p b : ℕ) → p ≡ placeOf x y b → b ≡ blockOf z i → x < 40 → y < 32 → blockOf z i < n → p < bytesOf n
+code-fits n x y z i p b e f hx hy hz = rw (e, f) (place-fits n x y (blockOf z i) hx hy hz)
 
 -- an attribute of a bichrome cell, by its bit of B
 module _ (b k : ℕ) where
@@ -35,5 +32,5 @@ module _ (b k : ℕ) where
 
 -- the row buffer, from the block and the Y that the code has
 pub buffer :
-    (ror : ℕ) (m : List ℕ) (r z y yor : ℕ) → z ≡ firstBlock ror → y ≡ rowY yor r → yor ≡ ror % 32 → table (codeOf m z y) 40 ≡ rowBuffer ror m r
-buffer ror m r z y yor ez ey eo = rw (ez, ey, eo ∙ yor-bits ror)
+    (shown : Shown) (m : List ℕ) (r z y yor : ℕ) → z ≡ firstBlock shown → y ≡ rowY yor r → yor ≡ yorOf shown → table (codeOf m z y) 40 ≡ rowBuffer shown m r
+buffer shown m r z y yor ez ey eo = rw (ez, ey, eo)

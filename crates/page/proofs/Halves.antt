@@ -15,7 +15,9 @@ use Rattle.basics.proofs.Below.{any-not}
 use Rattle.basics.proofs.Parts.{table-at, table-same}
 use Rattle.basics.proofs.Filled.{table-front}
 use Rattle.page.specs.Codes.{codeAt, rowBuffer}
-use Rattle.page.specs.Halves.{isTall, isWide, sameCode, goesOn, secondHalf, lowerHalf, rightHalf, lowerHalves, rightIn, goesOnAt, turnedAt}
+use Rattle.shown.specs.declared.Shown.{Shown}
+use Rattle.page.specs.Halves.{isTall, isWide, sameCode, goesOn, secondHalf, lowerHalf, rightHalf, lowerHalves}
+use Rattle.page.specs.HowHalves.{rightIn, goesOnAt, nextLowerAt}
 
 -- the third byte decides where the first two are the same
 pub third : (a b : List ℕ) → getD a 0 0 ≡ getD b 0 0 → getD a 1 0 ≡ getD b 1 0 → eqb (getD a 2 0) (getD b 2 0) ≡ sameCode a b
@@ -44,9 +46,9 @@ half-same doubles f g zero e = refl
 half-same doubles f g (suc n) e = rw (e (suc n) (omega arith), e n (omega arith), half-same doubles f g n (λ i l. e i (omega arith)))
 
 -- the right halves of a row are those of its buffer
-pub right-row : (ror : ℕ) (m : List ℕ) (r x : ℕ) → x < 40 → rightIn (rowBuffer ror m r) x ≡ rightHalf ror m r x
-right-row ror m r x l =
-    half-same isWide (λ i. getD (rowBuffer ror m r) i []) (codeAt ror m r) x (λ i h. table-at (codeAt ror m r) 40 i [] (omega arith))
+pub right-row : (shown : Shown) (m : List ℕ) (r x : ℕ) → x < 40 → rightIn (rowBuffer shown m r) x ≡ rightHalf shown m r x
+right-row shown m r x l =
+    half-same isWide (λ i. getD (rowBuffer shown m r) i []) (codeAt shown m r) x (λ i h. table-at (codeAt shown m r) 40 i [] (omega arith))
 
 -- a turn along a row: from what the code learnt of cell x, and the halves so far
 pub right-turn :
@@ -63,29 +65,29 @@ pub tall-turn :
 tall-turn here above x w on ew eo = eo ∙ ap (λ (t : Bool). goesOn t (getD here x []) (getD above x [])) ew
 
 -- the three ways of a row's lower halves
-module _ (ror : ℕ) (m : List ℕ) (r : ℕ) where
-  pub lower-service : r ≡ 0 → table (λ x. false) 40 ≡ lowerHalves ror m r
-  lower-service e = table-same _ _ 40 (λ x l. rw e (sym (first-half isTall (λ i. codeAt ror m i x))))
+module _ (shown : Shown) (m : List ℕ) (r : ℕ) where
+  pub lower-service : r ≡ 0 → table (λ x. false) 40 ≡ lowerHalves shown m r
+  lower-service e = table-same _ _ 40 (λ x l. rw e (sym (first-half isTall (λ i. codeAt shown m i x))))
 
   module _
-      (low : r ≡ 0 → ⊥) (here above : List (List ℕ)) (is-here : here ≡ rowBuffer ror m r) (is-above : above ≡ rowBuffer ror m (r - 1))
+      (low : r ≡ 0 → ⊥) (here above : List (List ℕ)) (is-here : here ≡ rowBuffer shown m r) (is-above : above ≡ rowBuffer shown m (r - 1))
     where
       pos : 0 < r
       pos = omega (arith, low)
 
-      goes : (x : ℕ) → x < 40 → goesOnAt here above x ≡ goesOn (isTall (codeAt ror m r x)) (codeAt ror m r x) (codeAt ror m (r - 1) x)
-      goes x l = rw (is-here, is-above, table-at (codeAt ror m r) 40 x [] l, table-at (codeAt ror m (r - 1)) 40 x [] l)
+      goes : (x : ℕ) → x < 40 → goesOnAt here above x ≡ goesOn (isTall (codeAt shown m r x)) (codeAt shown m r x) (codeAt shown m (r - 1) x)
+      goes x l = rw (is-here, is-above, table-at (codeAt shown m r) 40 x [] l, table-at (codeAt shown m (r - 1)) 40 x [] l)
 
-      pub lower-turned : (halves : List Bool) → halves ≡ lowerHalves ror m (r - 1) → table (turnedAt here above halves) 40 ≡ lowerHalves ror m r
-      lower-turned halves e =
+      pub lower-next : (halves : List Bool) → halves ≡ lowerHalves shown m (r - 1) → table (nextLowerAt here above halves) 40 ≡ lowerHalves shown m r
+      lower-next halves e =
           table-same _ _ 40
           (λ x l.
-          ap₂ (λ a b. a && not b) (goes x l) (ap (λ (h : List Bool). getD h x false) e ∙ table-at (lowerHalf ror m (r - 1)) 40 x false l)
-          ∙ half-next isTall (λ i. codeAt ror m i x) r pos)
+          ap₂ (λ a b. a && not b) (goes x l) (ap (λ (h : List Bool). getD h x false) e ∙ table-at (lowerHalf shown m (r - 1)) 40 x false l)
+          ∙ half-next isTall (λ i. codeAt shown m i x) r pos)
 
-      pub lower-none : anyBelow (goesOnAt here above) 40 ≡ false → table (λ x. false) 40 ≡ lowerHalves ror m r
+      pub lower-none : anyBelow (goesOnAt here above) 40 ≡ false → table (λ x. false) 40 ≡ lowerHalves shown m r
       lower-none e =
           table-same _ _ 40
           (λ x l.
-          ap (λ (a : Bool). a && not (lowerHalf ror m (r - 1) x)) (sym (any-not (goesOnAt here above) 40 x e l) ∙ goes x l)
-          ∙ half-next isTall (λ i. codeAt ror m i x) r pos)
+          ap (λ (a : Bool). a && not (lowerHalf shown m (r - 1) x)) (sym (any-not (goesOnAt here above) 40 x e l) ∙ goes x l)
+          ∙ half-next isTall (λ i. codeAt shown m i x) r pos)

@@ -1,15 +1,15 @@
 -- Which half a double height or a double width cell shows.
 -- Assumes nothing.
-use Prim.Native.Nat.{ℕ, zero, suc, _-_, _<_}
-use mathlib.Core.Path.{_≡_}
-use mathlib.Core.Bool.{Bool, true, false, not, _&&_}
-use mathlib.Core.List.{List, []}
+use Prim.Native.Nat.{ℕ, zero, suc}
+use mathlib.Core.Bool.{Bool, false, not, _&&_}
+use mathlib.Core.List.{List}
 use lib.Dec.{eqb}
 use lib.ListN.{getD}
 use Rattle.basics.specs.Bits.{isSet}
 use Rattle.basics.specs.Parts.{table}
 use Rattle.cell.specs.Cells.{isQuadrichrome}
-use Rattle.page.specs.Codes.{codeAt, rowBuffer}
+use Rattle.shown.specs.declared.Shown.{Shown}
+use Rattle.page.specs.Codes.{codeAt}
 
 -- a double height cell: bichrome, with B1
 unfoldable pub isTall : List ℕ → Bool
@@ -35,28 +35,13 @@ secondHalf doubles code (suc i) = goesOn (doubles (code (suc i))) (code (suc i))
 
 -- A double height cell shows its lower half exactly when the cell above it on the screen (the same column, one row up) has the same
 -- three bytes and shows its upper half; else the upper
-abbrev pub lowerHalf : ℕ → List ℕ → ℕ → ℕ → Bool
-lowerHalf ror m r x = secondHalf isTall (λ i. codeAt ror m i x) r
+abbrev pub lowerHalf : Shown → List ℕ → ℕ → ℕ → Bool
+lowerHalf shown m r x = secondHalf isTall (λ i. codeAt shown m i x) r
 
 -- Double width is the same to the left, giving the right half
-abbrev pub rightHalf : ℕ → List ℕ → ℕ → ℕ → Bool
-rightHalf ror m r x = secondHalf isWide (codeAt ror m r) x
+abbrev pub rightHalf : Shown → List ℕ → ℕ → ℕ → Bool
+rightHalf shown m r x = secondHalf isWide (codeAt shown m r) x
 
 -- the halves of a row's forty cells
-abbrev pub lowerHalves : ℕ → List ℕ → ℕ → List Bool
-lowerHalves ror m r = table (lowerHalf ror m r) 40
-
--- How the code goes, over row buffers: the right half of a cell of a buffer; whether a cell goes on from the one above; and the lower
--- half of a cell from those above.
-abbrev pub rightIn : List (List ℕ) → ℕ → Bool
-rightIn cells x = secondHalf isWide (λ i. getD cells i []) x
-
-abbrev pub goesOnAt : List (List ℕ) → List (List ℕ) → ℕ → Bool
-goesOnAt here above x = goesOn (isTall (getD here x [])) (getD here x []) (getD above x [])
-
-abbrev pub turnedAt : List (List ℕ) → List (List ℕ) → List Bool → ℕ → Bool
-turnedAt here above halves x = goesOnAt here above x && not (getD halves x false)
-
--- where they are known, these are the row buffer and the lower halves of the row above row r
-abbrev pub KnownAbove : ℕ → List ℕ → ℕ → Bool → List (List ℕ) → List Bool → Type 0
-KnownAbove ror m r known above halves = known ≡ true → (0 < r) × (above ≡ rowBuffer ror m (r - 1)) × (halves ≡ lowerHalves ror m (r - 1))
+abbrev pub lowerHalves : Shown → List ℕ → ℕ → List Bool
+lowerHalves shown m r = table (lowerHalf shown m r) 40

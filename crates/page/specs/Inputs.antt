@@ -6,6 +6,7 @@ use mathlib.Core.List.{List, []}
 use lib.ListN.{getD}
 use Rattle.basics.specs.Bits.{isSet}
 use Rattle.basics.specs.Parts.{table}
+use Rattle.shown.specs.declared.Shown.{Shown}
 use Rattle.cell.specs.declared.kind.Cell.{Cell}
 use Rattle.cell.specs.Cells.{isQuadrichrome, cellOf}
 use Rattle.page.specs.Codes.{codeAt}
@@ -43,18 +44,18 @@ pub record CellInput : Type 0 where
   pub lower : Bool
   pub right : Bool
 
-unfoldable pub cellInput : ℕ → ℕ → List ℕ → ℕ → ℕ → CellInput
-cellInput ror dor m r x =
+unfoldable pub cellInput : Shown → List ℕ → ℕ → ℕ → CellInput
+cellInput shown m r x =
     record {
-      code = codeAt ror m r x;
-      slices = takenFrom m (characterOf (decoded (codeAt ror m r x))) (cellSource dor (decoded (codeAt ror m r x)));
-      lower = lowerHalf ror m r x;
-      right = rightHalf ror m r x;
+      code = codeAt shown m r x;
+      slices = takenFrom m (characterOf (decoded (codeAt shown m r x))) (cellSource shown (decoded (codeAt shown m r x)));
+      lower = lowerHalf shown m r x;
+      right = rightHalf shown m r x;
     }
 
 -- past the last column
 abbrev pub noInput : CellInput
 noInput = record { code = []; slices = fromRom 0; lower = false; right = false }
 
-unfoldable pub rowInput : ℕ → ℕ → List ℕ → ℕ → List CellInput
-rowInput ror dor m r = table (cellInput ror dor m r) 40
+unfoldable pub rowInput : Shown → List ℕ → ℕ → List CellInput
+rowInput shown m r = table (cellInput shown m r) 40

@@ -4,9 +4,12 @@ ghost use mathlib.Core.Bool.{not, _&&_};
 ghost use lib.ListN.{length};
 ghost use Rattle.basics.specs.Below.{anyBelow};
 ghost use Rattle.basics.specs.Parts.{table};
+ghost use Rattle.address.specs.Boards.{memoryBytes};
 ghost use Rattle.page.specs.Codes.{rowBuffer};
-ghost use Rattle.page.specs.Halves.{isTall, isWide, sameCode, goesOn, lowerHalves, rightIn, turnedAt, goesOnAt, KnownAbove};
+ghost use Rattle.page.specs.Halves.{isTall, isWide, sameCode, goesOn, lowerHalves};
+ghost use Rattle.page.specs.HowHalves.{rightIn, goesOnAt, nextLowerAt, KnownAbove};
 use crate::code::row_buffer;
+use shown::Shown;
 
 // Bichrome, with B1.
 pub fn is_tall(code: [u8; 3]) -> bool
@@ -75,50 +78,56 @@ fn some_go_on(here: [[u8; 3]; 40], above: [[u8; 3]; 40]) -> bool
 }
 
 // The lower halves of a row, from those of the row above.
-fn turned(here: [[u8; 3]; 40], above: [[u8; 3]; 40], halves: [bool; 40]) -> [bool; 40]
-    ensures { λ r. ⌜ r ≡ table (turnedAt here above halves) 40 ⌝ }
+fn next_lowers(here: [[u8; 3]; 40], above: [[u8; 3]; 40], lowers: [bool; 40]) -> [bool; 40]
+    ensures { λ r. ⌜ r ≡ table (nextLowerAt here above lowers) 40 ⌝ }
 {
-    let mut lower = [false; 40];
+    let mut next = [false; 40];
     for x in 0..40 {
         let on = goes_on(is_tall(here[x]), here[x], above[x]);
-        let over = halves[x];
-        lower[x] = on & !over;
+        let over = lowers[x];
+        next[x] = on & !over;
     }
-    lower
+    next
 }
 
 // The lower halves of a row: each asked of the row above, the row number falling to the service row. Where no cell goes on from
 // the one above it, there is nothing to ask.
-pub fn lower_halves(memory: &[u8], ror: u8, row: u8, here: [[u8; 3]; 40]) -> [bool; 40]
-    requires { ⌜ (length (now memory) ≡ 16384) × (here ≡ rowBuffer ror (now memory) row) ⌝ }
-    ensures { λ r. ⌜ r ≡ lowerHalves ror (now (memory .entry)) row ⌝ }
+pub fn lower_halves(memory: &[u8], shown: Shown, row: u8, here: [[u8; 3]; 40]) -> [bool; 40]
+    requires { ⌜ (length (now memory) ≡ memoryBytes) × (here ≡ rowBuffer shown (now memory) row) ⌝ }
+    ensures { λ r. ⌜ r ≡ lowerHalves shown (now (memory .entry)) row ⌝ }
 {
     if row == 0 {
         return [false; 40];
     }
-    let above = row_buffer(memory, ror, row - 1);
+    let above = row_buffer(memory, shown, row - 1);
     if some_go_on(here, above) {
-        let halves = lower_halves(memory, ror, row - 1, above);
-        return turned(here, above, halves);
+        let lowers = lower_halves(memory, shown, row - 1, above);
+        return next_lowers(here, above, lowers);
     }
     [false; 40]
+}
+
+// The lower halves of the row above, where they are known. Its row buffer goes beside.
+pub struct Above {
+    pub known: bool,
+    pub lowers: [bool; 40],
 }
 
 // The lower halves of a row, by one step where the row above is known with its own.
 pub fn lower_halves_after(
     memory: &[u8],
-    ror: u8,
+    shown: Shown,
     row: u8,
     here: [[u8; 3]; 40],
-    known: bool,
-    above: [[u8; 3]; 40],
-    halves: [bool; 40],
+    cells: [[u8; 3]; 40],
+    above: Above,
 ) -> [bool; 40]
-    requires { ⌜ (length (now memory) ≡ 16384) × (here ≡ rowBuffer ror (now memory) row) × KnownAbove ror (now memory) row known above halves ⌝ }
-    ensures { λ r. ⌜ r ≡ lowerHalves ror (now (memory .entry)) row ⌝ }
+    requires { ⌜ (length (now memory) ≡ memoryBytes) × (here ≡ rowBuffer shown (now memory) row) × KnownAbove shown (now memory) row cells above ⌝ }
+    ensures { λ r. ⌜ r ≡ lowerHalves shown (now (memory .entry)) row ⌝ }
 {
-    if known {
-        return turned(here, above, halves);
+    if above.known {
+        let lowers = above.lowers;
+        return next_lowers(here, cells, lowers);
     }
-    lower_halves(memory, ror, row, here)
+    lower_halves(memory, shown, row, here)
 }

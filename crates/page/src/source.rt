@@ -3,11 +3,14 @@ ghost use mathlib.Core.Path.{_≡_};
 ghost use Prim.Native.Nat.{_<_};
 ghost use lib.ListN.{length};
 ghost use Rattle.basics.specs.Parts.{table};
+ghost use Rattle.address.specs.Boards.{boardBlocks, memoryBytes};
+ghost use Rattle.shown.specs.Lengths.{romBytes};
 ghost use Rattle.page.specs.Sources.{setSource, cellSource, characterOf, keptSlice, romSlice, slicesOf};
 use address::slice::SlicePlace;
 use address::slice::slice_place;
 use cell::kind::Cell;
 use cell::kind::Set;
+use shown::Shown;
 
 pub enum Source {
     // A ROM set, by the order G0, G10, G11, G20, G21.
@@ -17,8 +20,8 @@ pub enum Source {
 }
 
 // The source of a bichrome cell's set.
-pub fn set_source(set: Set, dor: u8) -> Source
-    ensures { λ r. ⌜ r ≡ setSource dor set ⌝ }
+pub fn set_source(set: Set, shown: Shown) -> Source
+    ensures { λ r. ⌜ r ≡ setSource shown set ⌝ }
 {
     match set {
         Set::G0 => Source::Rom(0),
@@ -26,20 +29,20 @@ pub fn set_source(set: Set, dor: u8) -> Source
         Set::G11 => Source::Rom(2),
         Set::G20 => Source::Rom(3),
         Set::G21 => Source::Rom(4),
-        Set::UserG0 => Source::Block(dor % 16),
-        Set::UserG1(s) => Source::Block(dor / 16 % 8 * 2 + s % 2),
+        Set::UserG0 => Source::Block(shown.dor % 16),
+        Set::UserG1(s) => Source::Block(shown.dor / 16 % 8 * 2 + s % 2),
     }
 }
 
-pub fn cell_source(cell: Cell, dor: u8) -> Source
-    ensures { λ r. ⌜ r ≡ cellSource dor cell ⌝ }
+pub fn cell_source(cell: Cell, shown: Shown) -> Source
+    ensures { λ r. ⌜ r ≡ cellSource shown cell ⌝ }
 {
     match cell {
         Cell::Bichrome(b) => {
             let set = b.set;
-            set_source(set, dor)
+            set_source(set, shown)
         }
-        Cell::Quadrichrome(q) => Source::Block(dor / 128 * 8 + q.block % 8),
+        Cell::Quadrichrome(q) => Source::Block(shown.dor / 128 * 8 + q.block % 8),
     }
 }
 
@@ -54,7 +57,7 @@ pub fn character(cell: Cell) -> u8
 
 // A slice in private memory: 0 where no byte is read.
 pub fn kept_slice(memory: &[u8], c: u8, z: u8, slice: u8) -> u8
-    requires { ⌜ (length (now memory) ≡ 16384) × (z < 16) × (slice < 10) ⌝ }
+    requires { ⌜ (length (now memory) ≡ memoryBytes) × (z < boardBlocks) × (slice < 10) ⌝ }
     ensures { λ r. ⌜ r ≡ keptSlice (now (memory .entry)) c z slice ⌝ }
 {
     let SlicePlace::At(p) = slice_place(c, slice, z) else {
@@ -64,7 +67,7 @@ pub fn kept_slice(memory: &[u8], c: u8, z: u8, slice: u8) -> u8
 }
 
 pub fn kept_slices(memory: &[u8], c: u8, z: u8) -> [u8; 10]
-    requires { ⌜ (length (now memory) ≡ 16384) × (z < 16) ⌝ }
+    requires { ⌜ (length (now memory) ≡ memoryBytes) × (z < boardBlocks) ⌝ }
     ensures { λ r. ⌜ r ≡ table (keptSlice (now (memory .entry)) c z) 10 ⌝ }
 {
     let mut slices = [0u8; 10];
@@ -76,7 +79,7 @@ pub fn kept_slices(memory: &[u8], c: u8, z: u8) -> [u8; 10]
 
 // The ten slices of a character stand side by side in the ROM.
 pub fn rom_slices(rom: &[u8], c: u8, set: u8) -> [u8; 10]
-    requires { ⌜ (length (now rom) ≡ 6400) × (set < 5) ⌝ }
+    requires { ⌜ (length (now rom) ≡ romBytes) × (set < 5) ⌝ }
     ensures { λ r. ⌜ r ≡ table (romSlice (now (rom .entry)) c set) 10 ⌝ }
 {
     let first = set as usize * 1280 + (c % 128) as usize * 10;
@@ -87,12 +90,12 @@ pub fn rom_slices(rom: &[u8], c: u8, set: u8) -> [u8; 10]
     slices
 }
 
-pub fn slices_of(memory: &[u8], rom: &[u8], dor: u8, cell: Cell) -> [u8; 10]
-    requires { ⌜ (length (now memory) ≡ 16384) × (length (now rom) ≡ 6400) ⌝ }
-    ensures { λ r. ⌜ r ≡ table (slicesOf (now (memory .entry)) (now (rom .entry)) dor cell) 10 ⌝ }
+pub fn slices_of(memory: &[u8], rom: &[u8], shown: Shown, cell: Cell) -> [u8; 10]
+    requires { ⌜ (length (now memory) ≡ memoryBytes) × (length (now rom) ≡ romBytes) ⌝ }
+    ensures { λ r. ⌜ r ≡ table (slicesOf (now (memory .entry)) (now (rom .entry)) shown cell) 10 ⌝ }
 {
     let c = character(cell);
-    let source = cell_source(cell, dor);
+    let source = cell_source(cell, shown);
     match source {
         Source::Rom(set) => rom_slices(rom, c, set),
         Source::Block(z) => kept_slices(memory, c, z),

@@ -1,3 +1,4 @@
+use Rattle.address.specs.Boards.{boardBlocks}
 use Rattle.page.proofs.Codes.{code-fits}
 use Rattle.page.specs.Codes.{codeOf}
 use native.Mathlib.Omega.{arith}
@@ -34,15 +35,15 @@ place-at-requires-3 c κs = search needs
 
 shared-slice-read-t9 : tie.Need-shared-slice-read-t9
 shared-slice-read-t9 c = let p = c .before .before .before .before .before in
-    omega (arith, code-fits _ _ _ _ _ _ (p .place-at .ensures) (p .before .block .ensures) (omega arith) (omega arith) (omega arith))
+    omega (arith, code-fits boardBlocks _ _ _ _ _ _ (p .place-at .ensures) (p .before .block .ensures) (omega arith) (omega arith) (omega arith))
 
 shared-slice-read-t13 : tie.Need-shared-slice-read-t13
 shared-slice-read-t13 c = let p = c .before .before .before .before in
-    omega (arith, code-fits _ _ _ _ _ _ (p .place-at2 .ensures) (p .before .block2 .ensures) (omega arith) (omega arith) (omega arith))
+    omega (arith, code-fits boardBlocks _ _ _ _ _ _ (p .place-at2 .ensures) (p .before .block2 .ensures) (omega arith) (omega arith) (omega arith))
 
 shared-slice-read-t15 : tie.Need-shared-slice-read-t15
 shared-slice-read-t15 c = let p = c .before .before .before in
-    omega (arith, code-fits _ _ _ _ _ _ (p .place-at3 .ensures) (p .before .block3 .ensures) (omega arith) (omega arith) (omega arith))
+    omega (arith, code-fits boardBlocks _ _ _ _ _ _ (p .place-at3 .ensures) (p .before .block3 .ensures) (omega arith) (omega arith) (omega arith))
 
 returns : tie.Need-returns
 unfolding codeOf

@@ -12,13 +12,16 @@ use Rattle.page.proofs.code.row_buffer.Statement.{statement}
 use Rattle.page.proofs.code.row_buffer.Tie as tie
 
 abbrev Inv-loop : tie.InvT-loop
-Inv-loop memory ror row z y cells₀ x₀ cells x = (x ≤ 40) × (length cells ≡ 40) × (take x cells ≡ table (codeOf memory z y) x)
+Inv-loop memory row z y cells₀ x₀ cells x = (x ≤ 40) × (length cells ≡ 40) × (take x cells ≡ table (codeOf memory z y) x)
 
 abbrev μ-loop : tie.MeasureT-loop
-μ-loop memory ror row z y cells₀ x₀ cells x = 40 - x
+μ-loop memory row z y cells₀ x₀ cells x = 40 - x
 
 first-block-requires : tie.Need-first-block-requires Inv-loop μ-loop
 first-block-requires c κs = search needs
+
+yor-requires : tie.Need-yor-requires Inv-loop μ-loop
+yor-requires c κs = search needs
 
 row-y-requires : tie.Need-row-y-requires Inv-loop μ-loop
 row-y-requires c κs = search needs
@@ -31,7 +34,7 @@ cast-code-at : tie.Need-cast-code-at Inv-loop μ-loop
 cast-code-at c = search needs
 
 code-at-requires : tie.Need-code-at-requires Inv-loop μ-loop
-code-at-requires c κs = (search needs, omega arith, rw (c .before .before .row-y .ensures) (row-small _ _), omega arith)
+code-at-requires c κs = (search needs, omega (arith, c .before .before .before .before .first-block .ensures), rw (c .before .before .row-y .ensures) (row-small _ _), omega arith)
 
 mul-cells : tie.Need-mul-cells Inv-loop μ-loop
 mul-cells c = search needs
@@ -52,7 +55,7 @@ loop-again c = let l = c .before .before .loop in
 returns : tie.Need-returns Inv-loop μ-loop
 returns c = let l = c .before .loop in
     let y = c .before .before in
-    table-end _ _ 40 _ (l .inv .2) (l .inv .0) (omega arith) (l .inv .1) ∙ buffer _ _ _ _ _ _ (y .before .first-block .ensures) (y .row-y .ensures) refl
+    table-end _ _ 40 _ (l .inv .2) (l .inv .0) (omega arith) (l .inv .1) ∙ buffer (y .before .before .before .before .args .shown) _ _ _ _ _ (y .before .before .first-block .ensures) (y .row-y .ensures) (y .before .yor .ensures)
 
 pub row-buffer-spec : {M : Type 1} → statement M
 row-buffer-spec =
@@ -61,6 +64,7 @@ row-buffer-spec =
     Inv-loop
     μ-loop
     first-block-requires
+    yor-requires
     row-y-requires
     loop-holds
     cast-code-at

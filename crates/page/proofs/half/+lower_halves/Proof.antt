@@ -1,7 +1,7 @@
 use mathlib.Core.Path.{sym, _∙_}
 use native.Mathlib.Omega.{arith}
 use Rattle.basics.specs.Parts.{joined}
-use Rattle.page.proofs.Halves.{lower-service, lower-turned, lower-none}
+use Rattle.page.proofs.Halves.{lower-service, lower-next, lower-none}
 use borrow.Author.Needs.{needs}
 use Prim.Native.Nat.{ℕ, _<_}
 use borrow.Fn.Kinds.{In}
@@ -11,7 +11,7 @@ use Rattle.page.proofs.half.lower_halves.Kinds as lower-halves-kinds
 use Rattle.page.proofs.half.+lower_halves.Lts-lower_halves as lower-halves-lts
 use Rattle.page.proofs.code.row_buffer.Reads as row-buffer-reads
 use Rattle.page.proofs.half.some_go_on.Reads as some-go-on-reads
-use Rattle.page.proofs.half.turned.Reads as turned-reads
+use Rattle.page.proofs.half.next_lowers.Reads as next-lowers-reads
 use Rattle.page.proofs.half.+lower_halves.{statement}
 use Rattle.page.proofs.half.+lower_halves.Tie.{close}
 
@@ -37,11 +37,11 @@ lower-halves-returns : (t : ℕ) → lower-halves-lts.Need-returns (
   some-go-on-reads.Learnt,
   lower-halves-below t,
   lower-halves.Post,
-  turned-reads.Asked,
-  turned-reads.Learnt,
+  next-lowers-reads.Asked,
+  next-lowers-reads.Learnt,
 ) (lower-halves-at t) lower-halves.Post
 unfolding joined
-lower-halves-returns t c = lower-service _ _ _ (c .if1 .taken)
+lower-halves-returns t c = lower-service (c .before .before .args .shown) _ _ (c .if1 .taken)
 
 lower-halves-sub-row-buffer : (t : ℕ) → lower-halves-lts.Need-sub-row-buffer (
   row-buffer-reads.Asked,
@@ -50,8 +50,8 @@ lower-halves-sub-row-buffer : (t : ℕ) → lower-halves-lts.Need-sub-row-buffer
   some-go-on-reads.Learnt,
   lower-halves-below t,
   lower-halves.Post,
-  turned-reads.Asked,
-  turned-reads.Learnt,
+  next-lowers-reads.Asked,
+  next-lowers-reads.Learnt,
 ) (lower-halves-at t) lower-halves.Post
 lower-halves-sub-row-buffer t c = search needs
 
@@ -62,8 +62,8 @@ lower-halves-row-buffer-requires : (t : ℕ) → lower-halves-lts.Need-row-buffe
   some-go-on-reads.Learnt,
   lower-halves-below t,
   lower-halves.Post,
-  turned-reads.Asked,
-  turned-reads.Learnt,
+  next-lowers-reads.Asked,
+  next-lowers-reads.Learnt,
 ) (lower-halves-at t) lower-halves.Post
 lower-halves-row-buffer-requires t c κs = search needs
 
@@ -74,8 +74,8 @@ lower-halves-some-go-on-requires : (t : ℕ) → lower-halves-lts.Need-some-go-o
   some-go-on-reads.Learnt,
   lower-halves-below t,
   lower-halves.Post,
-  turned-reads.Asked,
-  turned-reads.Learnt,
+  next-lowers-reads.Asked,
+  next-lowers-reads.Learnt,
 ) (lower-halves-at t) lower-halves.Post
 lower-halves-some-go-on-requires t c κs = search needs
 
@@ -86,8 +86,8 @@ lower-halves-sub-lower-halves : (t : ℕ) → lower-halves-lts.Need-sub-lower-ha
   some-go-on-reads.Learnt,
   lower-halves-below t,
   lower-halves.Post,
-  turned-reads.Asked,
-  turned-reads.Learnt,
+  next-lowers-reads.Asked,
+  next-lowers-reads.Learnt,
 ) (lower-halves-at t) lower-halves.Post
 lower-halves-sub-lower-halves t c = search needs
 
@@ -98,22 +98,22 @@ lower-halves-lower-halves-requires : (t : ℕ) → lower-halves-lts.Need-lower-h
   some-go-on-reads.Learnt,
   lower-halves-below t,
   lower-halves.Post,
-  turned-reads.Asked,
-  turned-reads.Learnt,
+  next-lowers-reads.Asked,
+  next-lowers-reads.Learnt,
 ) (lower-halves-at t) lower-halves.Post
 lower-halves-lower-halves-requires t c κs = (omega arith, (search needs, c .before .before .row-buffer .ensures))
 
-lower-halves-turned-requires : (t : ℕ) → lower-halves-lts.Need-turned-requires (
+lower-halves-next-lowers-requires : (t : ℕ) → lower-halves-lts.Need-next-lowers-requires (
   row-buffer-reads.Asked,
   row-buffer-reads.Learnt,
   some-go-on-reads.Asked,
   some-go-on-reads.Learnt,
   lower-halves-below t,
   lower-halves.Post,
-  turned-reads.Asked,
-  turned-reads.Learnt,
+  next-lowers-reads.Asked,
+  next-lowers-reads.Learnt,
 ) (lower-halves-at t) lower-halves.Post
-lower-halves-turned-requires t c κs = search needs
+lower-halves-next-lowers-requires t c κs = search needs
 
 lower-halves-returns-2 : (t : ℕ) → lower-halves-lts.Need-returns-2 (
   row-buffer-reads.Asked,
@@ -122,13 +122,13 @@ lower-halves-returns-2 : (t : ℕ) → lower-halves-lts.Need-returns-2 (
   some-go-on-reads.Learnt,
   lower-halves-below t,
   lower-halves.Post,
-  turned-reads.Asked,
-  turned-reads.Learnt,
+  next-lowers-reads.Asked,
+  next-lowers-reads.Learnt,
 ) (lower-halves-at t) lower-halves.Post
 lower-halves-returns-2 t c =
     let b = c .before .before .before .before in
     let s = b .before .before .before in
-    c .turned .ensures ∙ lower-turned _ _ _ (b .before .if1 .left) _ _ (s .pre .1 .1) (b .row-buffer .ensures) _ (c .before .lower-halves .ensures)
+    c .next-lowers .ensures ∙ lower-next (s .args .shown) _ _ (b .before .if1 .left) _ _ (s .pre .1 .1) (b .row-buffer .ensures) _ (c .before .lower-halves .ensures)
 
 lower-halves-returns-3 : (t : ℕ) → lower-halves-lts.Need-returns-3 (
   row-buffer-reads.Asked,
@@ -137,14 +137,14 @@ lower-halves-returns-3 : (t : ℕ) → lower-halves-lts.Need-returns-3 (
   some-go-on-reads.Learnt,
   lower-halves-below t,
   lower-halves.Post,
-  turned-reads.Asked,
-  turned-reads.Learnt,
+  next-lowers-reads.Asked,
+  next-lowers-reads.Learnt,
 ) (lower-halves-at t) lower-halves.Post
 unfolding joined
 lower-halves-returns-3 t c =
     let b = c .before .before in
     let s = b .before .before .before in
-    lower-none _ _ _ (b .before .if1 .left) _ _ (s .pre .1 .1) (b .row-buffer .ensures) (sym (c .before .some-go-on .ensures) ∙ c .if2 .left)
+    lower-none (s .args .shown) _ _ (b .before .if1 .left) _ _ (s .pre .1 .1) (b .row-buffer .ensures) (sym (c .before .some-go-on .ensures) ∙ c .if2 .left)
 
 pub +lower-halves-spec : {M : Type 1} → statement M
 +lower-halves-spec = close μ-lower-halves λ t. lower-halves-lts.spec (
@@ -154,8 +154,8 @@ pub +lower-halves-spec : {M : Type 1} → statement M
   some-go-on-reads.Learnt,
   lower-halves-below t,
   lower-halves.Post,
-  turned-reads.Asked,
-  turned-reads.Learnt,
+  next-lowers-reads.Asked,
+  next-lowers-reads.Learnt,
 )
     (lower-halves-at t)
     lower-halves.Post
@@ -165,6 +165,6 @@ pub +lower-halves-spec : {M : Type 1} → statement M
     (lower-halves-some-go-on-requires t)
     (lower-halves-sub-lower-halves t)
     (lower-halves-lower-halves-requires t)
-    (lower-halves-turned-requires t)
+    (lower-halves-next-lowers-requires t)
     (lower-halves-returns-2 t)
     (lower-halves-returns-3 t)

@@ -1,7 +1,7 @@
 use lib.ListN.{getD}
 use mathlib.Core.Bool.{Bool, not, _&&_}
 use Rattle.page.proofs.Halves.{tall-turn}
-use Rattle.page.specs.Halves.{turnedAt}
+use Rattle.page.specs.HowHalves.{nextLowerAt}
 use Rattle.basics.proofs.Filled.{table-set, table-end}
 use Rattle.basics.specs.Parts.{table, joined}
 use lib.ListN.{length, take, length-set}
@@ -9,11 +9,11 @@ use native.Mathlib.Omega.{arith}
 use mathlib.Core.Path.{_≡_, refl, ap}
 use Prim.Native.Nat.{_≤_, _-_}
 use borrow.Author.Needs.{needs}
-use Rattle.page.proofs.half.turned.Statement.{statement}
-use Rattle.page.proofs.half.turned.Tie as tie
+use Rattle.page.proofs.half.next_lowers.Statement.{statement}
+use Rattle.page.proofs.half.next_lowers.Tie as tie
 
 abbrev Inv-loop : tie.InvT-loop
-Inv-loop here above halves lower₀ x₀ lower x = (x ≤ 40) × (length lower ≡ 40) × (take x lower ≡ table (turnedAt here above halves) x)
+Inv-loop here above halves lower₀ x₀ lower x = (x ≤ 40) × (length lower ≡ 40) × (take x lower ≡ table (nextLowerAt here above halves) x)
 
 abbrev μ-loop : tie.MeasureT-loop
 μ-loop here above halves lower₀ x₀ lower x = 40 - x
@@ -49,8 +49,8 @@ goes-on-requires c κs = search needs
 array-read-over : tie.Need-array-read-over Inv-loop μ-loop
 array-read-over c = search needs
 
-array-write-lower : tie.Need-array-write-lower Inv-loop μ-loop
-array-write-lower c = search needs
+array-write-next : tie.Need-array-write-next Inv-loop μ-loop
+array-write-next c = search needs
 
 add-x : tie.Need-add-x Inv-loop μ-loop
 add-x c = search needs
@@ -73,8 +73,8 @@ loop-again c = let w = c .before .before .before in
 returns : tie.Need-returns Inv-loop μ-loop
 returns c = let l = c .before .loop in table-end _ _ 40 _ (l .inv .2) (l .inv .0) (omega arith) (l .inv .1)
 
-pub turned-spec : {M : Type 1} → statement M
-turned-spec =
+pub next-lowers-spec : {M : Type 1} → statement M
+next-lowers-spec =
     tie.close
     (tie.spec
     Inv-loop
@@ -89,7 +89,7 @@ turned-spec =
     array-copy-out-goes-on-2
     goes-on-requires
     array-read-over
-    array-write-lower
+    array-write-next
     add-x
     loop-less
     loop-again

@@ -1,5 +1,6 @@
 use Rattle.page.proofs.Halves.{right-turn}
-use Rattle.page.specs.Halves.{rightIn, secondHalf}
+use Rattle.page.specs.Halves.{secondHalf}
+use Rattle.page.specs.HowHalves.{rightIn}
 use Rattle.basics.proofs.Filled.{table-set, table-end}
 use Rattle.basics.specs.Parts.{table, joined}
 use lib.ListN.{length, take, length-set}

@@ -1,7 +1,7 @@
 use mathlib.Core.Bool.{_||_}
 use mathlib.Core.Path.{ap₂}
 use Rattle.page.proofs.Halves.{tall-turn}
-use Rattle.page.specs.Halves.{goesOnAt}
+use Rattle.page.specs.HowHalves.{goesOnAt}
 use Rattle.basics.proofs.Below.{any-step}
 use Rattle.basics.specs.Below.{anyBelow}
 use native.Mathlib.Omega.{arith}

@@ -24,7 +24,7 @@ returns : tie.Need-returns
 returns c = rw (c .before .before .cell .given .1) (c .set-source .ensures)
 
 returns-2 : tie.Need-returns-2
-returns-2 c = rw (c .before .before .cell2 .given .1) (ap Block (omega arith))
+returns-2 c = rw (c .before .before .before .cell2 .given .1) (ap Block (omega arith))
 
 pub cell-source-spec : {M : Type 1} → statement M
 cell-source-spec =

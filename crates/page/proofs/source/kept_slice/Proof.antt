@@ -1,3 +1,4 @@
+use Rattle.address.specs.Boards.{boardBlocks}
 use mathlib.Core.Path.{sym, _∙_}
 use Rattle.page.proofs.SliceSources.{slice-fits, slice-read, slice-none}
 use native.Mathlib.Omega.{arith}
@@ -19,7 +20,7 @@ returns c = slice-none _ _ _ _ _ (c .before .before .slice-place .ensures) (c .e
 
 shared-slice-read-result : tie.Need-shared-slice-read-result
 shared-slice-read-result c = let s = c .before .before .before .before in
-    omega (arith, slice-fits _ _ _ _ (sym (s .slice-place .ensures) ∙ c .before .before .p .given .1) (omega arith) (omega arith))
+    omega (arith, slice-fits boardBlocks _ _ _ _ (sym (s .slice-place .ensures) ∙ c .before .before .p .given .1) (omega arith) (omega arith))
 
 returns-2 : tie.Need-returns-2
 returns-2 c = let s = c .before .before .before .before in slice-read _ _ _ _ _ (s .slice-place .ensures) _ (c .before .before .p .given .1)

@@ -48,10 +48,10 @@ returns-5 : tie.Need-returns-5
 returns-5 c = search needs
 
 returns-6 : tie.Need-returns-6
-returns-6 c = rw (c .enum-told6 .given .1) (ap Block (omega arith))
+returns-6 c = rw (c .before .enum-told6 .given .1) (ap Block (omega arith))
 
 returns-7 : tie.Need-returns-7
-returns-7 c = rw (c .before .set .given .1) (ap Block (omega arith))
+returns-7 c = rw (c .before .before .set .given .1) (ap Block (omega arith))
 
 pub set-source-spec : {M : Type 1} → statement M
 set-source-spec =

@@ -15,14 +15,14 @@ enum-known-source c = search needs
 
 rom-slices-requires : tie.Need-rom-slices-requires
 rom-slices-requires c κs = let s = c .before .before .before in
-    (search needs, rom-fitting (s .before .before .before .before .args .dor) (s .before .before .before .before .args .cell) _ _ (s .cell-source .ensures) (c .before .source .given .1))
+    (search needs, rom-fitting (s .before .before .before .before .args .shown) (s .before .before .before .before .args .cell) _ _ (s .cell-source .ensures) (c .before .source .given .1))
 
 enum-known-source-2 : tie.Need-enum-known-source-2
 enum-known-source-2 c = search needs
 
 kept-slices-requires : tie.Need-kept-slices-requires
 kept-slices-requires c κs = let s = c .before .before .before in
-    (search needs, block-fitting (s .before .before .before .before .args .dor) (s .before .before .before .before .args .cell) _ _ (s .cell-source .ensures) (c .before .source2 .given .1))
+    (search needs, block-fitting (s .before .before .before .before .args .shown) (s .before .before .before .before .args .cell) _ _ (s .cell-source .ensures) (c .before .source2 .given .1))
 
 returns : tie.Need-returns
 returns c = let s = c .before .before .before .before in
