@@ -22,6 +22,7 @@ use Rattle.address.specs.Places.{placeOf}
 use Rattle.address.specs.Slices.{sliceX, sliceY, slicePlaceOf}
 use Rattle.address.proofs.Laws.{y-facts, facts-y, page-column, page-row, facts-page}
 use Rattle.address.proofs.Places.{place-injective}
+use Rattle.shown.specs.declared.Shown.{Shown}
 use Rattle.cell.specs.Cells.{setOf, bichromeOf, quadrichromeOf, isQuadrichrome, cellOf}
 use Rattle.cell.specs.declared.kind.Cell.the-variants.{Bichrome, Quadrichrome}
 use Rattle.cell.proofs.Codes.{set-UserG0, set-UserG1, cell-bichrome, cell-quadrichrome}
@@ -29,7 +30,7 @@ use Rattle.page.specs.Sources.{setSource, cellSource, characterOf}
 use Rattle.page.specs.declared.source.Source.{Source}
 use Rattle.page.specs.declared.source.Source.the-variants.{Rom, Block}
 use Rattle.reading.specs.Lists.{isAt, sourceHolds, cellHolds}
-use Rattle.reading.specs.Runs.{keyIf, user0Key, user1Key, quadKey, keysOf, showsCharacter, fromBlock, keyed}
+use Rattle.reading.specs.HowAsked.{keyIf, user0Key, user1Key, quadKey, keysOf, showsCharacter, fromBlock, keyed}
 use Rattle.reading.proofs.Tests.{together}
 
 -- one character has the place among its slices
@@ -75,33 +76,33 @@ sourceIs z (Rom set) = false
 sourceIs z (Block b) = eqb b z
 
 -- the source of a cell, by B
-module _ (dor c b a : ℕ) where
-  bichrome : b < 192 → cellSource dor (cellOf c b a) ≡ setSource dor (setOf (bits 4 4 b))
+module _ (shown : Shown) (c b a : ℕ) where
+  bichrome : b < 192 → cellSource shown (cellOf c b a) ≡ setSource shown (setOf (bits 4 4 b))
   unfolding bichromeOf
-  bichrome h = ap (cellSource dor) (sym (cell-bichrome c b a h))
+  bichrome h = ap (cellSource shown) (sym (cell-bichrome c b a h))
 
-  source-rom : (z : ℕ) → b < 128 → sourceIs z (cellSource dor (cellOf c b a)) ≡ false
+  source-rom : (z : ℕ) → b < 128 → sourceIs z (cellSource shown (cellOf c b a)) ≡ false
   unfolding setOf
   source-rom z h =
       ap (sourceIs z) (bichrome (omega arith))
-      ∙ agree-test (λ high. sourceIs z (setSource dor (setOf high))) (λ high. false) 8 tt (bits 4 4 b) (omega arith)
+      ∙ agree-test (λ high. sourceIs z (setSource shown (setOf high))) (λ high. false) 8 tt (bits 4 4 b) (omega arith)
 
-  source-user0 : 128 ≤ b → b < 160 → cellSource dor (cellOf c b a) ≡ Block (dor % 16)
+  source-user0 : 128 ≤ b → b < 160 → cellSource shown (cellOf c b a) ≡ Block (shown .dor % 16)
   source-user0 h l =
       bichrome (omega arith)
-      ∙ ap (setSource dor) (sym (set-UserG0 (bits 4 4 b) (omega arith) (omega arith)))
+      ∙ ap (setSource shown) (sym (set-UserG0 (bits 4 4 b) (omega arith) (omega arith)))
       ∙ ap Block (omega arith)
 
-  source-user1 : 160 ≤ b → b < 192 → cellSource dor (cellOf c b a) ≡ Block (2 * (dor / 16 % 8) + b / 16 % 2)
+  source-user1 : 160 ≤ b → b < 192 → cellSource shown (cellOf c b a) ≡ Block (2 * (shown .dor / 16 % 8) + b / 16 % 2)
   source-user1 h l =
-      let e : 2 * bits 4 3 dor + bits 4 4 b % 2 % 2 ≡ 2 * (dor / 16 % 8) + b / 16 % 2 = omega arith in
-      bichrome l ∙ ap (setSource dor) (sym (set-UserG1 (bits 4 4 b) (omega arith))) ∙ ap Block e
+      let e : 2 * bits 4 3 (shown .dor) + bits 4 4 b % 2 % 2 ≡ 2 * (shown .dor / 16 % 8) + b / 16 % 2 = omega arith in
+      bichrome l ∙ ap (setSource shown) (sym (set-UserG1 (bits 4 4 b) (omega arith))) ∙ ap Block e
 
-  source-quad : 192 ≤ b → b < 256 → cellSource dor (cellOf c b a) ≡ Block (8 * (dor / 128 % 2) + b / 8 % 8)
+  source-quad : 192 ≤ b → b < 256 → cellSource shown (cellOf c b a) ≡ Block (8 * (shown .dor / 128 % 2) + b / 8 % 8)
   unfolding quadrichromeOf
   source-quad h l =
-      let e : 8 * (dor / 128 % 2) + bits 3 3 b % 8 ≡ 8 * (dor / 128 % 2) + b / 8 % 8 = omega arith in
-      ap (cellSource dor) (sym (cell-quadrichrome c b a h l)) ∙ ap Block e
+      let e : 8 * (shown .dor / 128 % 2) + bits 3 3 b % 8 ≡ 8 * (shown .dor / 128 % 2) + b / 8 % 8 = omega arith in
+      ap (cellSource shown) (sym (cell-quadrichrome c b a h l)) ∙ ap Block e
 
   character : characterOf (cellOf c b a) ≡ c
   unfolding cellOf bichromeOf quadrichromeOf
@@ -136,18 +137,18 @@ both a b c d e f l m n =
 first-met : (p q r : Bool) → ((p && true) || ((q && false) || (r && false))) ≡ p
 first-met p q r = simp (and-false, and-true, or-false)
 
-module _ (dor z b : ℕ) (small : b < 256) where
+module _ (shown : Shown) (z b : ℕ) (small : b < 256) where
   abbrev met : Bool
-  met = eqb (b / 32) (user0Key dor z) || (eqb (b / 16) (user1Key dor z) || eqb (b / 8) (quadKey dor z))
+  met = eqb (b / 32) (user0Key shown z) || (eqb (b / 16) (user1Key shown z) || eqb (b / 8) (quadKey shown z))
 
   met-parts :
       met
-      ≡ ((eqb (dor % 16) z && eqb (b / 32) 4)
-      || ((eqb (dor / 16 % 8) (z / 2) && eqb (b / 16) (10 + z % 2)) || (eqb (dor / 128) (z / 8) && eqb (b / 8) (24 + z % 8))))
+      ≡ ((eqb (shown .dor % 16) z && eqb (b / 32) 4)
+      || ((eqb (shown .dor / 16 % 8) (z / 2) && eqb (b / 16) (10 + z % 2)) || (eqb (shown .dor / 128 % 2) (z / 8) && eqb (b / 8) (24 + z % 8))))
   met-parts =
-      ap₂ _||_ (key-met (eqb (dor % 16) z) (b / 32) 4 (omega arith))
-      (ap₂ _||_ (key-met (eqb (dor / 16 % 8) (z / 2)) (b / 16) (10 + z % 2) (omega arith))
-      (key-met (eqb (dor / 128) (z / 8)) (b / 8) (24 + z % 8) (omega arith)))
+      ap₂ _||_ (key-met (eqb (shown .dor % 16) z) (b / 32) 4 (omega arith))
+      (ap₂ _||_ (key-met (eqb (shown .dor / 16 % 8) (z / 2)) (b / 16) (10 + z % 2) (omega arith))
+      (key-met (eqb (shown .dor / 128 % 2) (z / 8)) (b / 8) (24 + z % 8) (omega arith)))
 
   not-user0 : (128 ≤ b → b < 160 → ⊥) → eqb (b / 32) 4 ≡ false
   not-user0 h = ne-eqb (b / 32) 4 (λ e. h (omega arith) (omega arith))
@@ -159,38 +160,38 @@ module _ (dor z b : ℕ) (small : b < 256) where
   not-quad h = ne-eqb (b / 8) (24 + z % 8) (λ e. omega arith)
 
   -- the keys are met exactly where the source is the block
-  pub block-met : (c a : ℕ) → dor < 256 → met ≡ sourceIs z (cellSource dor (cellOf c b a))
-  block-met c a h =
+  pub block-met : (c a : ℕ) → met ≡ sourceIs z (cellSource shown (cellOf c b a))
+  block-met c a =
       ⊎-elim
       (λ l.
       met-parts
       ∙ rw (not-user0 (λ p q. omega arith), not-user1 (λ p q. omega arith), not-quad (omega arith))
-      (none-met (eqb (dor % 16) z) (eqb (dor / 16 % 8) (z / 2)) (eqb (dor / 128) (z / 8)) ∙ sym (source-rom dor c b a z l)))
+      (none-met (eqb (shown .dor % 16) z) (eqb (shown .dor / 16 % 8) (z / 2)) (eqb (shown .dor / 128 % 2) (z / 8)) ∙ sym (source-rom shown c b a z l)))
       (λ from128.
       ⊎-elim
       (λ l.
       met-parts
       ∙ rw (eq-eqb (b / 32) 4 (omega arith), not-user1 (λ p q. omega arith), not-quad (omega arith))
-      (first-met (eqb (dor % 16) z) (eqb (dor / 16 % 8) (z / 2)) (eqb (dor / 128) (z / 8)) ∙ sym (ap (sourceIs z) (source-user0 dor c b a from128 l))))
+      (first-met (eqb (shown .dor % 16) z) (eqb (shown .dor / 16 % 8) (z / 2)) (eqb (shown .dor / 128 % 2) (z / 8)) ∙ sym (ap (sourceIs z) (source-user0 shown c b a from128 l))))
       (λ from160.
       ⊎-elim
       (λ l.
       met-parts
       ∙ rw (not-user0 (λ p q. omega arith), not-quad (omega arith))
-      (second-met (eqb (dor % 16) z) (eqb (dor / 16 % 8) (z / 2) && eqb (b / 16) (10 + z % 2)) (eqb (dor / 128) (z / 8))
-      ∙ both (dor / 16 % 8) (z / 2) (b / 16) (10 + z % 2) (2 * (dor / 16 % 8) + b / 16 % 2) z (λ p q. omega arith) (λ e. omega arith) (λ e. omega arith)
-      ∙ sym (ap (sourceIs z) (source-user1 dor c b a from160 l))))
+      (second-met (eqb (shown .dor % 16) z) (eqb (shown .dor / 16 % 8) (z / 2) && eqb (b / 16) (10 + z % 2)) (eqb (shown .dor / 128 % 2) (z / 8))
+      ∙ both (shown .dor / 16 % 8) (z / 2) (b / 16) (10 + z % 2) (2 * (shown .dor / 16 % 8) + b / 16 % 2) z (λ p q. omega arith) (λ e. omega arith) (λ e. omega arith)
+      ∙ sym (ap (sourceIs z) (source-user1 shown c b a from160 l))))
       (λ from192.
       met-parts
       ∙ rw (not-user0 (λ p q. omega arith), not-user1 (λ p q. omega arith))
-      (third-met (eqb (dor % 16) z) (eqb (dor / 16 % 8) (z / 2)) (eqb (dor / 128) (z / 8) && eqb (b / 8) (24 + z % 8))
-      ∙ both (dor / 128) (z / 8) (b / 8) (24 + z % 8) (8 * (dor / 128 % 2) + b / 8 % 8) z (λ p q. omega arith) (λ e. omega arith) (λ e. omega arith)
-      ∙ sym (ap (sourceIs z) (source-quad dor c b a from192 small))))
+      (third-met (eqb (shown .dor % 16) z) (eqb (shown .dor / 16 % 8) (z / 2)) (eqb (shown .dor / 128 % 2) (z / 8) && eqb (b / 8) (24 + z % 8))
+      ∙ both (shown .dor / 128 % 2) (z / 8) (b / 8) (24 + z % 8) (8 * (shown .dor / 128 % 2) + b / 8 % 8) z (λ p q. omega arith) (λ e. omega arith) (λ e. omega arith)
+      ∙ sym (ap (sourceIs z) (source-quad shown c b a from192 small))))
       (lt-or-le b 192))
       (lt-or-le b 160))
       (lt-or-le b 128)
 
-module _ (dor : ℕ) (at : Triple) (page : onPage (at .x) (at .y) ≡ true) where
+module _ (shown : Shown) (at : Triple) (page : onPage (at .x) (at .y) ≡ true) where
   abbrev place : ℕ
   place = placeOf (at .x) (at .y) (at .z)
 
@@ -198,12 +199,12 @@ module _ (dor : ℕ) (at : Triple) (page : onPage (at .x) (at .y) ≡ true) wher
   source-holds c (Rom set) = and-false (eqb (c % 128) (at .y * 4 + at .x % 4))
   source-holds c (Block b) = sym (slices-hold (at .x) (at .y) (at .z) page c b)
 
-  pub keyed-cell : (code : List ℕ) → getD code 1 0 < 256 → dor < 256 → keyed (keysOf dor at) code ≡ cellHolds dor place code
+  pub keyed-cell : (code : List ℕ) → getD code 1 0 < 256 → keyed (keysOf shown at) code ≡ cellHolds shown place code
   unfolding keyed keysOf showsCharacter fromBlock cellHolds
-  keyed-cell code small h =
+  keyed-cell code small =
       let c = getD code 0 0 in
       let b = getD code 1 0 in
       let a = getD code 2 0 in
-      ap (λ (t : Bool). eqb (c % 128) (at .y * 4 + at .x % 4) && t) (block-met dor (at .z) b small c a h)
-      ∙ source-holds c (cellSource dor (cellOf c b a))
-      ∙ ap (λ (n : ℕ). sourceHolds place n (cellSource dor (cellOf c b a))) (sym (character dor c b a))
+      ap (λ (t : Bool). eqb (c % 128) (at .y * 4 + at .x % 4) && t) (block-met shown (at .z) b small c a)
+      ∙ source-holds c (cellSource shown (cellOf c b a))
+      ∙ ap (λ (n : ℕ). sourceHolds place n (cellSource shown (cellOf c b a))) (sym (character shown c b a))

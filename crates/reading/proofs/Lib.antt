@@ -1,5 +1,4 @@
 pub mod Tests
-pub mod Refusals
 pub mod Rows
 pub mod Characters
 pub mod Places

@@ -22,15 +22,17 @@ use Rattle.address.specs.Triples.{legal}
 use Rattle.address.specs.Places.{placeOf, blockOf}
 use Rattle.address.specs.Rows.{rowY}
 use Rattle.address.proofs.Laws.{facts-y, page-row, legal-page}
-use Rattle.page.specs.Codes.{yorOf, firstBlock, codeOf}
+use Rattle.shown.specs.declared.Shown.{Shown}
+use Rattle.shown.specs.Origins.{yorOf, firstBlock}
+use Rattle.shown.specs.Refusals.{canDraw}
+use Rattle.page.specs.Codes.{codeOf}
 use Rattle.page.specs.Halves.{isTall}
 use Rattle.page.specs.Inputs.{flashes}
-use Rattle.page.proofs.Codes.{yor-bits}
-use Rattle.picture.specs.Redraws.{isMarked}
+use Rattle.page.specs.Marks.{isMarked, markedToo}
 use Rattle.reading.specs.declared.key.Keys.{Keys}
 use Rattle.reading.specs.Lists.{rowHolds, cellHolds, slicesHold, hasTall, aboveHolds, onList}
-use Rattle.reading.specs.Marks.{canDraw, markedToo, storeMarks, flashIn, phaseMarks}
-use Rattle.reading.specs.Runs.{keysOf, keyed, codeBlock, rowAt, isUnmarked}
+use Rattle.reading.specs.Marks.{storeMarks, flashIn, phaseMarks}
+use Rattle.reading.specs.HowAsked.{keysOf, keyed, codeBlock, rowAt, isUnmarked}
 use Rattle.reading.proofs.Tests.{not-false, marked-first}
 use Rattle.reading.proofs.Characters.{keyed-cell}
 use Rattle.reading.proofs.Places.{own-bytes, row-at}
@@ -80,112 +82,112 @@ module _ (f : ℕ → Bool) (marks : List Bool) where
             (lt-or-le i r)
 
 -- a row, by the block and the Y that the code has
-module _ (ror : ℕ) (m : List ℕ) (r z y : ℕ) (ez : z ≡ firstBlock ror) (ey : y ≡ rowY (ror % 32) r) where
-  same-row : (g : List ℕ → Bool) → anyBelow (λ x. g (codeOf m z y x)) 40 ≡ anyBelow (λ x. g (codeOf m (firstBlock ror) (rowY (yorOf ror) r) x)) 40
-  same-row g = any-same _ _ 40 (λ x l. rw (ez, ey, yor-bits ror))
+module _ (shown : Shown) (m : List ℕ) (r z y : ℕ) (ez : z ≡ firstBlock shown) (ey : y ≡ rowY (yorOf shown) r) where
+  same-row : (g : List ℕ → Bool) → anyBelow (λ x. g (codeOf m z y x)) 40 ≡ anyBelow (λ x. g (codeOf m (firstBlock shown) (rowY (yorOf shown) r) x)) 40
+  same-row g = any-same _ _ 40 (λ x l. rw (ez, ey))
 
-  flash-row : anyBelow (λ x. flashes (codeOf m z y x)) 40 ≡ flashIn ror m r
+  flash-row : anyBelow (λ x. flashes (codeOf m z y x)) 40 ≡ flashIn shown m r
   unfolding flashIn
   flash-row = same-row flashes
 
   -- the turn of a phase change
   pub flash-turn :
-      (marks after : List Bool) (new : Bool) → MarkedTo (flashIn ror m) marks after r → r < 25
-      → new ≡ (isMarked marks r || anyBelow (λ x. flashes (codeOf m z y x)) 40) → MarkedTo (flashIn ror m) marks (set after r new) (r + 1)
+      (marks after : List Bool) (new : Bool) → MarkedTo (flashIn shown m) marks after r → r < 25
+      → new ≡ (isMarked marks r || anyBelow (λ x. flashes (codeOf m z y x)) 40) → MarkedTo (flashIn shown m) marks (set after r new) (r + 1)
   flash-turn marks after new d l e = marked-turn _ marks after r d l new (e ∙ ap (λ (t : Bool). isMarked marks r || t) flash-row)
 
-  tall-row : anyBelow (λ x. isTall (codeOf m z y x)) 40 ≡ hasTall ror m r
+  tall-row : anyBelow (λ x. isTall (codeOf m z y x)) 40 ≡ hasTall shown m r
   unfolding hasTall
   tall-row = same-row isTall
 
-  module _ (dor : ℕ) (at : Triple) (lawful : legal at ≡ true) where
+  module _ (at : Triple) (lawful : legal at ≡ true) where
     abbrev place : ℕ
     place = placeOf (at .x) (at .y) (at .z)
 
     slices-row :
-        (keys : Keys) → keys ≡ keysOf dor at → dor < 256 → ((k : ℕ) → getD m k 0 < 256)
-        → anyBelow (λ x. keyed keys (codeOf m z y x)) 40 ≡ slicesHold ror dor m place r
+        (keys : Keys) → keys ≡ keysOf shown at → ((k : ℕ) → getD m k 0 < 256)
+        → anyBelow (λ x. keyed keys (codeOf m z y x)) 40 ≡ slicesHold shown m place r
     unfolding slicesHold codeOf
-    slices-row keys ek h bytes =
+    slices-row keys ek bytes =
         any-same _ _ 40
-        (λ x l. ap (λ (k : Keys). keyed k (codeOf m z y x)) ek ∙ keyed-cell dor at (legal-page at lawful) (codeOf m z y x) (bytes (placeOf x y (blockOf z 1))) h)
-        ∙ same-row (cellHolds dor place)
+        (λ x l. ap (λ (k : Keys). keyed k (codeOf m z y x)) ek ∙ keyed-cell shown at (legal-page _ at lawful) (codeOf m z y x) (bytes (placeOf x y (blockOf z 1))))
+        ∙ same-row (cellHolds shown place)
 
-    own-row : (code : Bool) → code ≡ codeBlock z (at .z) → (code && eqb y (at .y)) ≡ rowHolds ror place r
+    own-row : (code : Bool) → code ≡ codeBlock z (at .z) → (code && eqb y (at .y)) ≡ rowHolds shown place r
     own-row code ec =
-        rw (ec, ez, ey, yor-bits ror) (own-bytes (at .x) (at .y) (at .z) (legal-page at lawful) ror r)
+        rw (ec, ez, ey) (own-bytes (at .x) (at .y) (at .z) (legal-page _ at lawful) shown r)
 
 -- what the row above hands on: its own bytes, or those of the rows above that it reads, hold the byte
-abbrev handed : ℕ → List ℕ → ℕ → ℕ → Bool
-handed ror m p zero = false
-handed ror m p (suc r) = rowHolds ror p r || aboveHolds ror m p r
+abbrev handed : Shown → List ℕ → ℕ → ℕ → Bool
+handed shown m p zero = false
+handed shown m p (suc r) = rowHolds shown p r || aboveHolds shown m p r
 
-above-handed : (ror : ℕ) (m : List ℕ) (p r : ℕ) → (hasTall ror m r && handed ror m p r) ≡ aboveHolds ror m p r
+above-handed : (shown : Shown) (m : List ℕ) (p r : ℕ) → (hasTall shown m r && handed shown m p r) ≡ aboveHolds shown m p r
 unfolding aboveHolds
-above-handed ror m p zero = and-false (hasTall ror m 0)
-above-handed ror m p (suc r) = refl
+above-handed shown m p zero = and-false (hasTall shown m 0)
+above-handed shown m p (suc r) = refl
 
-pub record AskedTo (ror dor : ℕ) (m : List ℕ) (p : ℕ) (marks after : List Bool) (reached : Bool) (r : ℕ) : Type 0 where
-  pub marked : MarkedTo (onList ror dor m p) marks after r
-  pub down : reached ≡ handed ror m p r
+pub record AskedTo (shown : Shown) (m : List ℕ) (p : ℕ) (marks after : List Bool) (reached : Bool) (r : ℕ) : Type 0 where
+  pub marked : MarkedTo (onList shown m p) marks after r
+  pub down : reached ≡ handed shown m p r
 
-module _ (ror dor : ℕ) (m : List ℕ) (at : Triple) (marks : List Bool) where
+module _ (shown : Shown) (m : List ℕ) (at : Triple) (marks : List Bool) where
   abbrev stored : ℕ
   stored = placeOf (at .x) (at .y) (at .z)
 
-  pub asked-start : length marks ≡ 25 → AskedTo ror dor m stored marks marks false 0
+  pub asked-start : length marks ≡ 25 → AskedTo shown m stored marks marks false 0
   asked-start h = record { marked = marked-start _ marks h; down = refl }
 
   module _
-      (lawful : legal at ≡ true) (small : dor < 256) (bytes : (k : ℕ) → getD m k 0 < 256) (z : ℕ) (keys : Keys) (code : Bool)
-      (ez : z ≡ firstBlock ror) (ek : keys ≡ keysOf dor at) (ec : code ≡ codeBlock z (at .z))
+      (lawful : legal at ≡ true) (bytes : (k : ℕ) → getD m k 0 < 256) (z : ℕ) (keys : Keys) (code : Bool)
+      (ez : z ≡ firstBlock shown) (ek : keys ≡ keysOf shown at) (ec : code ≡ codeBlock z (at .z))
     where
       pub asked-turn :
-          (after : List Bool) (reached : Bool) (r row : ℕ) (above new : Bool)
-          → AskedTo ror dor m stored marks after reached r → r < 25 → row ≡ rowAt (ror % 32) (at .y)
-          → above ≡ (anyBelow (λ x. isTall (codeOf m z (rowY (ror % 32) r) x)) 40 && reached)
-          → new ≡ ((isMarked marks r || ((code && eqb r row) || above)) || anyBelow (λ x. keyed keys (codeOf m z (rowY (ror % 32) r) x)) 40)
-          → AskedTo ror dor m stored marks (set after r new) ((code && eqb r row) || above) (r + 1)
+          (yor : ℕ) → yor ≡ yorOf shown → (after : List Bool) (reached : Bool) (r row : ℕ) (above new : Bool)
+          → AskedTo shown m stored marks after reached r → r < 25 → row ≡ rowAt yor (at .y)
+          → above ≡ (anyBelow (λ x. isTall (codeOf m z (rowY yor r) x)) 40 && reached)
+          → new ≡ ((isMarked marks r || ((code && eqb r row) || above)) || anyBelow (λ x. keyed keys (codeOf m z (rowY yor r) x)) 40)
+          → AskedTo shown m stored marks (set after r new) ((code && eqb r row) || above) (r + 1)
       unfolding onList
-      asked-turn after reached r row above new d l er ea en =
-          let y = rowY (ror % 32) r in
-          let ey : y ≡ rowY (ror % 32) r = refl in
+      asked-turn yor eo after reached r row above new d l er ea en =
+          let y = rowY yor r in
+          let ey = ap (λ (o : ℕ). rowY o r) eo in
           let own =
           ap (λ (k : ℕ). code && eqb r k) er
-          ∙ ap (λ (t : Bool). code && t) (row-at (ror % 32) (at .y) r l (facts-y (at .y) (page-row (at .x) (at .y) (legal-page at lawful))))
-          ∙ own-row ror m r z y ez ey dor at lawful code ec in
-          let up : above ≡ aboveHolds ror m stored r = ea ∙ ap₂ _&&_ (tall-row ror m r z y ez ey) (d .down) ∙ above-handed ror m stored r in
-          let slices = slices-row ror m r z y ez ey dor at lawful keys ek small bytes in
+          ∙ ap (λ (t : Bool). code && t) (row-at yor (at .y) r l (facts-y (at .y) (page-row (at .x) (at .y) (legal-page _ at lawful))))
+          ∙ own-row shown m r z y ez ey at lawful code ec in
+          let up : above ≡ aboveHolds shown m stored r = ea ∙ ap₂ _&&_ (tall-row shown m r z y ez ey) (d .down) ∙ above-handed shown m stored r in
+          let slices = slices-row shown m r z y ez ey at lawful keys ek bytes in
           record {
             marked =
                 marked-turn _ marks after r (d .marked) l new
                 (en
                 ∙ ap₂ _||_ (ap (λ (t : Bool). isMarked marks r || t) (ap₂ _||_ own up)) slices
-                ∙ marked-first (isMarked marks r) (rowHolds ror stored r) (slicesHold ror dor m stored r) (aboveHolds ror m stored r));
+                ∙ marked-first (isMarked marks r) (rowHolds shown stored r) (slicesHold shown m stored r) (aboveHolds shown m stored r));
             down = rw add-one (ap₂ _||_ own up);
           }
 
 -- the two ends of a store and of a phase change
-module _ (tgs pat ror : ℕ) (drawn : Bool) (learnt : drawn ≡ canDraw tgs pat ror) where
-  pub phase-refused : (m : List ℕ) (marks : List Bool) → drawn ≡ false → marks ≡ phaseMarks tgs pat ror m marks
+module _ (shown : Shown) (drawn : Bool) (learnt : drawn ≡ canDraw shown) where
+  pub phase-refused : (m : List ℕ) (marks : List Bool) → drawn ≡ false → marks ≡ phaseMarks shown m marks
   unfolding phaseMarks
   phase-refused m marks e = rw (sym learnt ∙ e)
 
-  pub phase-asked : (m : List ℕ) (marks after : List Bool) → drawn ≡ true → after ≡ markedToo (flashIn ror m) marks → after ≡ phaseMarks tgs pat ror m marks
+  pub phase-asked : (m : List ℕ) (marks after : List Bool) → drawn ≡ true → after ≡ markedToo (flashIn shown m) marks → after ≡ phaseMarks shown m marks
   unfolding phaseMarks
   phase-asked m marks after e q = rw (sym learnt ∙ e) q
 
-  module _ (dor : ℕ) (m : List ℕ) (p v : ℕ) (marks : List Bool) where
-    pub store-refused : drawn ≡ false → marks ≡ storeMarks tgs pat dor ror m p v marks
+  module _ (m : List ℕ) (p v : ℕ) (marks : List Bool) where
+    pub store-refused : drawn ≡ false → marks ≡ storeMarks shown m p v marks
     unfolding storeMarks
     store-refused e = rw (sym learnt ∙ e)
 
-    pub store-same : (q : ℕ) → q ≡ p → drawn ≡ true → getD m q 0 ≡ v → marks ≡ storeMarks tgs pat dor ror m p v marks
+    pub store-same : (q : ℕ) → q ≡ p → drawn ≡ true → getD m q 0 ≡ v → marks ≡ storeMarks shown m p v marks
     unfolding storeMarks
     store-same q at e same = rw (sym learnt ∙ e, ← at, eq-eqb (getD m q 0) v same)
 
     pub store-asked :
-        (q : ℕ) → q ≡ p → drawn ≡ true → (getD m q 0 ≡ v → ⊥) → (after : List Bool) → after ≡ markedToo (onList ror dor m p) marks
-        → after ≡ storeMarks tgs pat dor ror m p v marks
+        (q : ℕ) → q ≡ p → drawn ≡ true → (getD m q 0 ≡ v → ⊥) → (after : List Bool) → after ≡ markedToo (onList shown m p) marks
+        → after ≡ storeMarks shown m p v marks
     unfolding storeMarks
     store-asked q at e other after made = made ∙ rw (sym learnt ∙ e, ← at, ne-eqb (getD m q 0) v other)

@@ -15,57 +15,58 @@ use Rattle.address.specs.Places.{placeOf, blockOf}
 use Rattle.address.specs.Rows.{rowY}
 use Rattle.address.proofs.Laws.{y-facts, page-column, page-row, facts-page, legal-page, row-legal, row-service, row-from-one}
 use Rattle.address.proofs.Places.{place-injective}
-use Rattle.page.specs.Codes.{yorOf, firstBlock}
+use Rattle.shown.specs.declared.Shown.{Shown}
+use Rattle.shown.specs.Origins.{yorOf, firstBlock}
 use Rattle.reading.specs.Lists.{codePlace, codeHolds, rowHolds}
-use Rattle.reading.specs.Runs.{rowAt, codeBlock}
+use Rattle.reading.specs.HowAsked.{rowAt, codeBlock}
 use Rattle.reading.proofs.Tests.{together}
 
 pub legal-row : (at : Triple) → legal at ≡ true → at .y < 32
-legal-row at e = ⊎-elim (λ r. omega arith) (λ r. omega arith) (page-row (at .x) (at .y) (legal-page at e))
+legal-row at e = ⊎-elim (λ r. omega arith) (λ r. omega arith) (page-row (at .x) (at .y) (legal-page _ at e))
 
-module _ (x y z : ℕ) (page : onPage x y ≡ true) (ror r : ℕ) where
+module _ (x y z : ℕ) (page : onPage x y ≡ true) (shown : Shown) (r : ℕ) where
   -- the row's Y and one of the three blocks
   abbrev own : Bool
-  own = codeBlock (firstBlock ror) z && eqb (rowY (yorOf ror) r) y
+  own = codeBlock (firstBlock shown) z && eqb (rowY (yorOf shown) r) y
 
-  found : (a k : ℕ) → a < 40 → eqb (placeOf x y z) (codePlace ror r a k) ≡ true → (rowY (yorOf ror) r ≡ y) × (blockOf (firstBlock ror) k ≡ z)
+  found : (a k : ℕ) → a < 40 → eqb (placeOf x y z) (codePlace shown r a k) ≡ true → (rowY (yorOf shown) r ≡ y) × (blockOf (firstBlock shown) k ≡ z)
   unfolding codePlace
   found a k l e =
-      let row = rowY (yorOf ror) r in
-      let same = place-injective x y z a row (blockOf (firstBlock ror) k) page (facts-page a row l (y-facts row (row-legal (yorOf ror) r))) (eqb-true _ _ e) in
+      let row = rowY (yorOf shown) r in
+      let same = place-injective x y z a row (blockOf (firstBlock shown) k) page (facts-page a row l (y-facts row (row-legal (yorOf shown) r))) (eqb-true _ _ e) in
       (omega arith, omega arith)
 
-  there : (k : ℕ) → rowY (yorOf ror) r ≡ y → blockOf (firstBlock ror) k ≡ z → eqb (placeOf x y z) (codePlace ror r x k) ≡ true
+  there : (k : ℕ) → rowY (yorOf shown) r ≡ y → blockOf (firstBlock shown) k ≡ z → eqb (placeOf x y z) (codePlace shown r x k) ≡ true
   unfolding codePlace
-  there k e f = eq-eqb _ _ (sym (ap (λ (a : ℕ). placeOf x a (blockOf (firstBlock ror) k)) e ∙ ap (placeOf x y) f))
+  there k e f = eq-eqb _ _ (sym (ap (λ (a : ℕ). placeOf x a (blockOf (firstBlock shown) k)) e ∙ ap (placeOf x y) f))
 
-  only : (a : ℕ) → a < 40 → codeHolds ror (placeOf x y z) r a ≡ true → own ≡ true
+  only : (a : ℕ) → a < 40 → codeHolds shown (placeOf x y z) r a ≡ true → own ≡ true
   unfolding codeHolds codeBlock
   only a l e =
       ⊎-elim (λ p. let w = found a 0 l p in and-both _ _ (or-left _ _ (eq-eqb _ _ (w .1))) (eq-eqb _ _ (w .0)))
       (λ q.
       ⊎-elim
-      (λ p. let w = found a 1 l p in and-both _ _ (or-right (eqb (blockOf (firstBlock ror) 0) z) _ (or-left _ _ (eq-eqb _ _ (w .1)))) (eq-eqb _ _ (w .0)))
+      (λ p. let w = found a 1 l p in and-both _ _ (or-right (eqb (blockOf (firstBlock shown) 0) z) _ (or-left _ _ (eq-eqb _ _ (w .1)))) (eq-eqb _ _ (w .0)))
       (λ p.
       let w = found a 2 l p in
-      and-both _ _ (or-right (eqb (blockOf (firstBlock ror) 0) z) _ (or-right (eqb (blockOf (firstBlock ror) 1) z) _ (eq-eqb _ _ (w .1)))) (eq-eqb _ _ (w .0)))
-      (or-cases (eqb (placeOf x y z) (codePlace ror r a 1)) _ q))
-      (or-cases (eqb (placeOf x y z) (codePlace ror r a 0)) _ e)
+      and-both _ _ (or-right (eqb (blockOf (firstBlock shown) 0) z) _ (or-right (eqb (blockOf (firstBlock shown) 1) z) _ (eq-eqb _ _ (w .1)))) (eq-eqb _ _ (w .0)))
+      (or-cases (eqb (placeOf x y z) (codePlace shown r a 1)) _ q))
+      (or-cases (eqb (placeOf x y z) (codePlace shown r a 0)) _ e)
 
-  held : own ≡ true → codeHolds ror (placeOf x y z) r x ≡ true
+  held : own ≡ true → codeHolds shown (placeOf x y z) r x ≡ true
   unfolding codeHolds codeBlock
   held e =
-      let f = eqb-true _ _ (and-right (codeBlock (firstBlock ror) z) _ e) in
+      let f = eqb-true _ _ (and-right (codeBlock (firstBlock shown) z) _ e) in
       ⊎-elim (λ p. or-left _ _ (there 0 f (eqb-true _ _ p)))
       (λ q.
       ⊎-elim
-      (λ p. or-right (eqb (placeOf x y z) (codePlace ror r x 0)) _ (or-left _ _ (there 1 f (eqb-true _ _ p))))
+      (λ p. or-right (eqb (placeOf x y z) (codePlace shown r x 0)) _ (or-left _ _ (there 1 f (eqb-true _ _ p))))
       (λ p.
-      or-right (eqb (placeOf x y z) (codePlace ror r x 0)) _ (or-right (eqb (placeOf x y z) (codePlace ror r x 1)) _ (there 2 f (eqb-true _ _ p))))
-      (or-cases (eqb (blockOf (firstBlock ror) 1) z) _ q))
-      (or-cases (eqb (blockOf (firstBlock ror) 0) z) _ (and-left _ _ e))
+      or-right (eqb (placeOf x y z) (codePlace shown r x 0)) _ (or-right (eqb (placeOf x y z) (codePlace shown r x 1)) _ (there 2 f (eqb-true _ _ p))))
+      (or-cases (eqb (blockOf (firstBlock shown) 1) z) _ q))
+      (or-cases (eqb (blockOf (firstBlock shown) 0) z) _ (and-left _ _ e))
 
-  pub own-bytes : (codeBlock (firstBlock ror) z && eqb (rowY (yorOf ror) r) y) ≡ rowHolds ror (placeOf x y z) r
+  pub own-bytes : (codeBlock (firstBlock shown) z && eqb (rowY (yorOf shown) r) y) ≡ rowHolds shown (placeOf x y z) r
   unfolding rowHolds
   own-bytes =
       together _ _

@@ -1,4 +1,4 @@
--- Laws of a run of cells: its bytes stand side by side, and the tests of its bytes are those of its cells.
+-- Laws of a stretch of cells: its bytes stand side by side, and the tests of its bytes are those of its cells.
 -- Assumes nothing.
 use Prim.Native.Nat.{ℕ, _+_, _/_, _%_, _≤_, _<_}
 use mathlib.Core.Path.{_≡_, sym, ap, _∙_}
@@ -13,6 +13,7 @@ use Rattle.basics.specs.Below.{anyBelow}
 use Rattle.basics.proofs.Below.{any-not}
 use Rattle.basics.proofs.Choice.{lt-or-le, eq-or-ne, or-none, or-neither}
 use Rattle.basics.proofs.Computed.{agree-test}
+use Rattle.address.specs.Boards.{bytesOf}
 use Rattle.address.specs.Places.{placeOf, blockOf}
 use Rattle.address.proofs.Laws.{place-left, place-service, place-right}
 use Rattle.cell.specs.Cells.{isQuadrichrome}
@@ -20,13 +21,13 @@ use Rattle.page.specs.Codes.{codeOf}
 use Rattle.page.specs.Halves.{isTall}
 use Rattle.page.specs.Inputs.{flashes}
 use Rattle.reading.specs.declared.key.Keys.{Keys}
-use Rattle.reading.specs.Runs.{isSource, showsCharacter, fromBlock, keyed}
+use Rattle.reading.specs.HowAsked.{isSource, showsCharacter, fromBlock, keyed}
 use Rattle.reading.proofs.Tests.{not-false, any-never}
 
--- a run that crosses from column 31 to column 32 has two starts; another has one
+-- a stretch that crosses from column 31 to column 32 has two starts; another has one
 module _ (first i : ℕ) (column : first + i < 40) (side : first % 32 + i < 32) where
-  pub run-place : (y z : ℕ) → placeOf first y z + i ≡ placeOf (first + i) y z
-  run-place y z =
+  pub stretch-place : (y z : ℕ) → placeOf first y z + i ≡ placeOf (first + i) y z
+  stretch-place y z =
       ⊎-elim
       (λ l. omega (arith, place-left first y z l, place-left (first + i) y z (omega arith)))
       (λ l.
@@ -38,24 +39,25 @@ module _ (first i : ℕ) (column : first + i < 40) (side : first % 32 + i < 32) 
 
   module _ (m : List ℕ) (y z start : ℕ) where
     byte : (k : ℕ) → start ≡ placeOf first y (blockOf z k) → getD m (start + i) 0 ≡ getD m (placeOf (first + i) y (blockOf z k)) 0
-    byte k e = ap (λ (p : ℕ). getD m p 0) (ap (λ (s : ℕ). s + i) e ∙ run-place y (blockOf z k))
+    byte k e = ap (λ (p : ℕ). getD m p 0) (ap (λ (s : ℕ). s + i) e ∙ stretch-place y (blockOf z k))
 
-    pub run-c : start ≡ placeOf first y (blockOf z 0) → getD m (start + i) 0 ≡ getD (codeOf m z y (first + i)) 0 0
+    pub stretch-c : start ≡ placeOf first y (blockOf z 0) → getD m (start + i) 0 ≡ getD (codeOf m z y (first + i)) 0 0
     unfolding codeOf
-    run-c e = byte 0 e
+    stretch-c e = byte 0 e
 
-    pub run-b : start ≡ placeOf first y (blockOf z 1) → getD m (start + i) 0 ≡ getD (codeOf m z y (first + i)) 1 0
+    pub stretch-b : start ≡ placeOf first y (blockOf z 1) → getD m (start + i) 0 ≡ getD (codeOf m z y (first + i)) 1 0
     unfolding codeOf
-    run-b e = byte 1 e
+    stretch-b e = byte 1 e
 
-    pub run-a : start ≡ placeOf first y (blockOf z 2) → getD m (start + i) 0 ≡ getD (codeOf m z y (first + i)) 2 0
+    pub stretch-a : start ≡ placeOf first y (blockOf z 2) → getD m (start + i) 0 ≡ getD (codeOf m z y (first + i)) 2 0
     unfolding codeOf
-    run-a e = byte 2 e
+    stretch-a e = byte 2 e
 
--- a run is in memory
-pub run-fits :
-    (first n y z k start : ℕ) → start ≡ placeOf first y (blockOf z k) → z < 16 → y < 32 → first + n ≤ 40 → first % 32 + n ≤ 32 → start + n ≤ 16384
-run-fits first n y z k start e hz hy column side =
+-- a stretch is in the memory of a board of so many blocks
+pub stretch-fits :
+    (blocks first n y z k start : ℕ) → start ≡ placeOf first y (blockOf z k) → blockOf z k < blocks → y < 32 → first + n ≤ 40 → first % 32 + n ≤ 32
+    → start + n ≤ bytesOf blocks
+stretch-fits blocks first n y z k start e hz hy column side =
     ⊎-elim
     (λ l. omega (arith, place-left first y (blockOf z k) l))
     (λ l.

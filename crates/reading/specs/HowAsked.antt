@@ -10,7 +10,8 @@ use lib.ListN.{getD}
 use Rattle.basics.specs.Choice.{pick}
 use Rattle.address.specs.declared.triple.Triple.{Triple}
 use Rattle.address.specs.Places.{blockOf}
-use Rattle.picture.specs.Redraws.{isMarked}
+use Rattle.shown.specs.declared.Shown.{Shown}
+use Rattle.page.specs.Marks.{isMarked}
 use Rattle.reading.specs.declared.key.Keys.{Keys}
 
 -- 255 is what no part of a byte can be
@@ -18,23 +19,23 @@ abbrev pub keyIf : Bool → ℕ → ℕ
 keyIf fits key = pick fits key 255
 
 -- b / 32, b / 16 and b / 8 of the B bytes whose source can be the block: user G'0, user G'1s and quadrichrome
-abbrev pub user0Key : ℕ → ℕ → ℕ
-user0Key dor z = keyIf (eqb (dor % 16) z) 4
+abbrev pub user0Key : Shown → ℕ → ℕ
+user0Key shown z = keyIf (eqb (shown .dor % 16) z) 4
 
-abbrev pub user1Key : ℕ → ℕ → ℕ
-user1Key dor z = keyIf (eqb (dor / 16 % 8) (z / 2)) (10 + z % 2)
+abbrev pub user1Key : Shown → ℕ → ℕ
+user1Key shown z = keyIf (eqb (shown .dor / 16 % 8) (z / 2)) (10 + z % 2)
 
-abbrev pub quadKey : ℕ → ℕ → ℕ
-quadKey dor z = keyIf (eqb (dor / 128) (z / 8)) (24 + z % 8)
+abbrev pub quadKey : Shown → ℕ → ℕ
+quadKey shown z = keyIf (eqb (shown .dor / 128 % 2) (z / 8)) (24 + z % 8)
 
 -- what a cell must be to read the byte at a triple
-unfoldable pub keysOf : ℕ → Triple → Keys
-keysOf dor at =
+unfoldable pub keysOf : Shown → Triple → Keys
+keysOf shown at =
     record {
       character = at .y * 4 + at .x % 4;
-      user0 = user0Key dor (at .z);
-      user1 = user1Key dor (at .z);
-      quad = quadKey dor (at .z);
+      user0 = user0Key shown (at .z);
+      user1 = user1Key shown (at .z);
+      quad = quadKey shown (at .z);
     }
 
 -- some byte can have the source

@@ -1,3 +1,3 @@
 pub mod Lists
 pub mod Marks
-pub mod Runs
+pub mod HowAsked

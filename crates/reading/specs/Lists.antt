@@ -10,7 +10,9 @@ use Rattle.address.specs.Rows.{rowY}
 use Rattle.address.specs.Slices.{slicePlaceOf}
 use Rattle.address.specs.declared.slice.SlicePlace.{SlicePlace}
 use Rattle.address.specs.declared.slice.SlicePlace.the-variants.{At, NoByte}
-use Rattle.page.specs.Codes.{yorOf, firstBlock, codeAt}
+use Rattle.shown.specs.declared.Shown.{Shown}
+use Rattle.shown.specs.Origins.{yorOf, firstBlock}
+use Rattle.page.specs.Codes.{codeAt}
 use Rattle.page.specs.Halves.{isTall}
 use Rattle.page.specs.Sources.{cellSource, characterOf}
 use Rattle.page.specs.Inputs.{decoded}
@@ -18,16 +20,16 @@ use Rattle.page.specs.declared.source.Source.{Source}
 use Rattle.page.specs.declared.source.Source.the-variants.{Rom, Block}
 
 -- the place of byte k (0 C, 1 B, 2 A) of the cell in row r and column x
-unfoldable pub codePlace : ℕ → ℕ → ℕ → ℕ → ℕ
-codePlace ror r x k = placeOf x (rowY (yorOf ror) r) (blockOf (firstBlock ror) k)
+unfoldable pub codePlace : Shown → ℕ → ℕ → ℕ → ℕ
+codePlace shown r x k = placeOf x (rowY (yorOf shown) r) (blockOf (firstBlock shown) k)
 
 -- p is one of the three bytes of the cell
-unfoldable pub codeHolds : ℕ → ℕ → ℕ → ℕ → Bool
-codeHolds ror p r x = eqb p (codePlace ror r x 0) || (eqb p (codePlace ror r x 1) || eqb p (codePlace ror r x 2))
+unfoldable pub codeHolds : Shown → ℕ → ℕ → ℕ → Bool
+codeHolds shown p r x = eqb p (codePlace shown r x 0) || (eqb p (codePlace shown r x 1) || eqb p (codePlace shown r x 2))
 
 -- Row r reads its 120 bytes
-unfoldable pub rowHolds : ℕ → ℕ → ℕ → Bool
-rowHolds ror p r = anyBelow (codeHolds ror p r) 40
+unfoldable pub rowHolds : Shown → ℕ → ℕ → Bool
+rowHolds shown p r = anyBelow (codeHolds shown p r) 40
 
 -- p is where a slice is read; none where no byte is
 abbrev pub isAt : ℕ → SlicePlace → Bool
@@ -40,21 +42,21 @@ sourceHolds p c (Rom set) = false
 sourceHolds p c (Block z) = anyBelow (λ n. isAt p (slicePlaceOf c n z)) 10
 
 -- all ten slices of a user or quadrichrome cell
-unfoldable pub cellHolds : ℕ → ℕ → List ℕ → Bool
-cellHolds dor p code = sourceHolds p (characterOf (decoded code)) (cellSource dor (decoded code))
+unfoldable pub cellHolds : Shown → ℕ → List ℕ → Bool
+cellHolds shown p code = sourceHolds p (characterOf (decoded code)) (cellSource shown (decoded code))
 
 -- of each user or quadrichrome cell in it
-unfoldable pub slicesHold : ℕ → ℕ → List ℕ → ℕ → ℕ → Bool
-slicesHold ror dor m p r = anyBelow (λ x. cellHolds dor p (codeAt ror m r x)) 40
+unfoldable pub slicesHold : Shown → List ℕ → ℕ → ℕ → Bool
+slicesHold shown m p r = anyBelow (λ x. cellHolds shown p (codeAt shown m r x)) 40
 
 -- row r has a double height bichrome cell
-unfoldable pub hasTall : ℕ → List ℕ → ℕ → Bool
-hasTall ror m r = anyBelow (λ x. isTall (codeAt ror m r x)) 40
+unfoldable pub hasTall : Shown → List ℕ → ℕ → Bool
+hasTall shown m r = anyBelow (λ x. isTall (codeAt shown m r x)) 40
 
 -- and, if r is not 0 and has a double height bichrome cell, the 120 bytes of row r − 1, and so upward while the row added has one too
-unfoldable pub aboveHolds : ℕ → List ℕ → ℕ → ℕ → Bool
-aboveHolds ror m p zero = false
-aboveHolds ror m p (suc r) = hasTall ror m (suc r) && (rowHolds ror p r || aboveHolds ror m p r)
+unfoldable pub aboveHolds : Shown → List ℕ → ℕ → ℕ → Bool
+aboveHolds shown m p zero = false
+aboveHolds shown m p (suc r) = hasTall shown m (suc r) && (rowHolds shown p r || aboveHolds shown m p r)
 
-unfoldable pub onList : ℕ → ℕ → List ℕ → ℕ → ℕ → Bool
-onList ror dor m p r = rowHolds ror p r || (slicesHold ror dor m p r || aboveHolds ror m p r)
+unfoldable pub onList : Shown → List ℕ → ℕ → ℕ → Bool
+onList shown m p r = rowHolds shown p r || (slicesHold shown m p r || aboveHolds shown m p r)

@@ -3,9 +3,10 @@
 ghost use mathlib.Core.Path.{_≡_};
 ghost use Rattle.address.specs.Triples.{legal};
 ghost use mathlib.Core.Bool.{true};
-ghost use Rattle.reading.specs.Runs.{keyIf, keysOf, isSource, codeBlock};
+ghost use Rattle.reading.specs.HowAsked.{keyIf, keysOf, isSource, codeBlock};
 use address::place::block;
 use address::triple::Triple;
+use shown::Shown;
 
 // The character, and b / 32, b / 16 and b / 8 of the B bytes whose source is the block; 255 where no byte's is.
 pub struct Keys {
@@ -24,15 +25,15 @@ fn key_if(fits: bool, key: u8) -> u8
     255
 }
 
-pub fn keys_of(dor: u8, at: Triple) -> Keys
+pub fn keys_of(shown: Shown, at: Triple) -> Keys
     requires { ⌜ legal at ≡ true ⌝ }
-    ensures { λ r. ⌜ r ≡ keysOf dor at ⌝ }
+    ensures { λ r. ⌜ r ≡ keysOf shown at ⌝ }
 {
     Keys {
         character: at.y * 4 + at.x % 4,
-        user0: key_if(dor % 16 == at.z, 4),
-        user1: key_if(dor / 16 % 8 == at.z / 2, 10 + at.z % 2),
-        quad: key_if(dor / 128 == at.z / 8, 24 + at.z % 8),
+        user0: key_if(shown.dor % 16 == at.z, 4),
+        user1: key_if(shown.dor / 16 % 8 == at.z / 2, 10 + at.z % 2),
+        quad: key_if(shown.dor / 128 % 2 == at.z / 8, 24 + at.z % 8),
     }
 }
 

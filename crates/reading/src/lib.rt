@@ -2,8 +2,6 @@
 pub mod key;
 pub mod own;
 pub mod phase;
-pub mod refuse;
 pub mod row;
-pub mod run;
-pub mod shown;
 pub mod store;
+pub mod stretch;

@@ -1,6 +1,7 @@
 // The screen row that has a Y: the rule of a row's Y, the other way round.
 ghost use mathlib.Core.Path.{_≡_};
-ghost use Rattle.reading.specs.Runs.{rowAt};
+ghost use Rattle.reading.specs.HowAsked.{rowAt};
+use address::row::past_eight;
 
 pub fn row_at(yor: u8, y: u8) -> u8
     ensures { λ r. ⌜ r ≡ rowAt yor y ⌝ }
@@ -8,7 +9,6 @@ pub fn row_at(yor: u8, y: u8) -> u8
     if y < 8 {
         return 0;
     }
-    let first = if yor < 8 { 0 } else { yor - 8 };
-    let on = y as u16 + 16 - first as u16 % 24;
+    let on = y as u16 + 16 - past_eight(yor) as u16 % 24;
     1 + (on % 24) as u8
 }

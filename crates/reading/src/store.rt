@@ -4,21 +4,21 @@ ghost use mathlib.Core.Path.{_≡_};
 ghost use mathlib.Core.Bool.{true};
 ghost use lib.ListN.{length};
 ghost use Rattle.basics.specs.Below.{endBelow};
+ghost use Rattle.address.specs.Boards.{memoryBytes};
 ghost use Rattle.address.specs.Triples.{legal};
 ghost use Rattle.address.specs.Places.{placeOf};
 ghost use Rattle.reading.specs.Lists.{onList};
-ghost use Rattle.reading.specs.Marks.{markedToo, storeMarks};
-ghost use Rattle.reading.specs.Runs.{isUnmarked};
+ghost use Rattle.page.specs.Marks.{markedToo};
+ghost use Rattle.reading.specs.Marks.{storeMarks};
+ghost use Rattle.reading.specs.HowAsked.{isUnmarked};
 use crate::key::is_code_block;
 use crate::key::keys_of;
 use crate::own::row_at;
-use crate::refuse::can_draw;
 use crate::row::is_marked_or_keyed;
 use crate::row::is_reached;
-use crate::shown::Shown;
 use address::place::place;
 use address::triple::Triple;
-use page::code::first_block;
+use shown::Shown;
 
 // One more than the last row that is not marked: from there on no row is asked.
 fn unmarked_end(marks: [bool; 25]) -> usize
@@ -35,23 +35,24 @@ fn unmarked_end(marks: [bool; 25]) -> usize
 
 // The rows are asked from the top, so that each hands on to the one below whether its own bytes, or those of the rows above that it
 // reads, hold the byte.
-fn list_marks(marks: [bool; 25], ror: u8, dor: u8, memory: &[u8], at: Triple) -> [bool; 25]
-    requires { ⌜ (length (now memory) ≡ 16384) × (legal at ≡ true) ⌝ }
-    ensures { λ r. ⌜ r ≡ markedToo (onList ror dor (now (memory .entry)) (placeOf (at .x) (at .y) (at .z))) marks ⌝ }
+fn list_marks(marks: [bool; 25], shown: Shown, memory: &[u8], at: Triple) -> [bool; 25]
+    requires { ⌜ (length (now memory) ≡ memoryBytes) × (legal at ≡ true) ⌝ }
+    ensures { λ r. ⌜ r ≡ markedToo (onList shown (now (memory .entry)) (placeOf (at .x) (at .y) (at .z))) marks ⌝ }
 {
-    let z = first_block(ror);
-    let keys = keys_of(dor, at);
+    let z = shown.first_block();
+    let keys = keys_of(shown, at);
     let code = is_code_block(z, at.z);
     let end = unmarked_end(marks);
     let mut after = marks;
     let mut reached = false;
     for r in 0..end {
-        let row = row_at(ror % 32, at.y);
+        let yor = shown.yor();
+        let row = row_at(yor, at.y);
         let own = code & (r as u8 == row);
-        let above = is_reached(memory, z, ror % 32, r as u8, reached);
+        let above = is_reached(memory, z, yor, r as u8, reached);
         reached = own | above;
         let known = marks[r] | reached;
-        after[r] = is_marked_or_keyed(memory, z, ror % 32, r as u8, keys, known);
+        after[r] = is_marked_or_keyed(memory, z, yor, r as u8, keys, known);
     }
     after
 }
@@ -64,15 +65,15 @@ pub fn store_marks(
     at: Triple,
     value: u8,
 ) -> [bool; 25]
-    requires { ⌜ (length (now memory) ≡ 16384) × (legal at ≡ true) ⌝ }
-    ensures { λ r. ⌜ r ≡ storeMarks (shown .tgs) (shown .pat) (shown .dor) (shown .ror) (now (memory .entry)) (placeOf (at .x) (at .y) (at .z)) value marks ⌝ }
+    requires { ⌜ (length (now memory) ≡ memoryBytes) × (legal at ≡ true) ⌝ }
+    ensures { λ r. ⌜ r ≡ storeMarks shown (now (memory .entry)) (placeOf (at .x) (at .y) (at .z)) value marks ⌝ }
 {
-    if can_draw(shown.tgs, shown.pat, shown.ror) {
+    if shown.can_draw() {
         let p = place(at);
         if memory[p] == value {
             return marks;
         }
-        return list_marks(marks, shown.ror, shown.dor, memory, at);
+        return list_marks(marks, shown, memory, at);
     }
     marks
 }

@@ -1,20 +1,21 @@
-// Questions about a run of cells whose bytes stand side by side in each block of the page: columns 0 to 31 of a row, and 32 to 39.
+// Questions about a stretch of cells whose bytes stand side by side in each block of the page: columns 0 to 31 of a row, and 32 to 39.
 // Each loop gathers and goes to its end, so that it can be compiled to ask many bytes at once.
 ghost use mathlib.Core.Path.{_≡_};
 ghost use Prim.Native.Nat.{_+_, _%_, _<_, _≤_};
 ghost use lib.ListN.{length};
 ghost use Rattle.basics.specs.Below.{anyBelow};
+ghost use Rattle.address.specs.Boards.{boardBlocks, memoryBytes};
 ghost use Rattle.address.specs.Places.{placeOf, blockOf};
 ghost use Rattle.page.specs.Codes.{codeOf};
 ghost use Rattle.page.specs.Halves.{isTall};
 ghost use Rattle.page.specs.Inputs.{flashes};
-ghost use Rattle.reading.specs.Runs.{showsCharacter, keyed};
+ghost use Rattle.reading.specs.HowAsked.{showsCharacter, keyed};
 use crate::key::Keys;
 use address::place::block;
 use address::place::place_at;
 
-// Where byte k of a run's cells starts.
-fn run_start(z: u8, y: u8, first: u16, k: u8) -> usize
+// Where byte k of a stretch's cells starts.
+fn start(z: u8, y: u8, first: u16, k: u8) -> usize
     ensures { λ r. ⌜ r ≡ placeOf first y (blockOf z k) ⌝ }
 {
     place_at(first, y as u16, block(z, k) as u16)
@@ -22,10 +23,10 @@ fn run_start(z: u8, y: u8, first: u16, k: u8) -> usize
 
 // A cell of double height.
 pub fn some_tall(memory: &[u8], z: u8, y: u8, first: u16, n: usize) -> bool
-    requires { ⌜ (length (now memory) ≡ 16384) × (z < 16) × (y < 32) × (first + n ≤ 40) × (first % 32 + n ≤ 32) ⌝ }
+    requires { ⌜ (length (now memory) ≡ memoryBytes) × (z < boardBlocks) × (y < 32) × (first + n ≤ 40) × (first % 32 + n ≤ 32) ⌝ }
     ensures { λ r. ⌜ r ≡ anyBelow (λ i. isTall (codeOf (now (memory .entry)) z y (first + i))) n ⌝ }
 {
-    let b = run_start(z, y, first, 1);
+    let b = start(z, y, first, 1);
     let mut found = false;
     for i in 0..n {
         let byte = memory[b + i];
@@ -36,11 +37,11 @@ pub fn some_tall(memory: &[u8], z: u8, y: u8, first: u16, n: usize) -> bool
 
 // A cell that flashes.
 pub fn some_flash(memory: &[u8], z: u8, y: u8, first: u16, n: usize) -> bool
-    requires { ⌜ (length (now memory) ≡ 16384) × (z < 16) × (y < 32) × (first + n ≤ 40) × (first % 32 + n ≤ 32) ⌝ }
+    requires { ⌜ (length (now memory) ≡ memoryBytes) × (z < boardBlocks) × (y < 32) × (first + n ≤ 40) × (first % 32 + n ≤ 32) ⌝ }
     ensures { λ r. ⌜ r ≡ anyBelow (λ i. flashes (codeOf (now (memory .entry)) z y (first + i))) n ⌝ }
 {
-    let b = run_start(z, y, first, 1);
-    let a = run_start(z, y, first, 2);
+    let b = start(z, y, first, 1);
+    let a = start(z, y, first, 2);
     let mut found = false;
     for i in 0..n {
         found = found | ((memory[b + i] < 192) & (memory[a + i] / 8 % 2 == 1));
@@ -50,10 +51,10 @@ pub fn some_flash(memory: &[u8], z: u8, y: u8, first: u16, n: usize) -> bool
 
 // A cell whose C is the character.
 pub fn some_character(memory: &[u8], z: u8, y: u8, first: u16, n: usize, t: u8) -> bool
-    requires { ⌜ (length (now memory) ≡ 16384) × (z < 16) × (y < 32) × (first + n ≤ 40) × (first % 32 + n ≤ 32) ⌝ }
+    requires { ⌜ (length (now memory) ≡ memoryBytes) × (z < boardBlocks) × (y < 32) × (first + n ≤ 40) × (first % 32 + n ≤ 32) ⌝ }
     ensures { λ r. ⌜ r ≡ anyBelow (λ i. showsCharacter t (codeOf (now (memory .entry)) z y (first + i))) n ⌝ }
 {
-    let c = run_start(z, y, first, 0);
+    let c = start(z, y, first, 0);
     let mut found = false;
     for i in 0..n {
         found = found | (memory[c + i] % 128 == t);
@@ -63,11 +64,11 @@ pub fn some_character(memory: &[u8], z: u8, y: u8, first: u16, n: usize, t: u8) 
 
 // A cell that the keys fit.
 pub fn some_keyed(memory: &[u8], z: u8, y: u8, first: u16, n: usize, keys: Keys) -> bool
-    requires { ⌜ (length (now memory) ≡ 16384) × (z < 16) × (y < 32) × (first + n ≤ 40) × (first % 32 + n ≤ 32) ⌝ }
+    requires { ⌜ (length (now memory) ≡ memoryBytes) × (z < boardBlocks) × (y < 32) × (first + n ≤ 40) × (first % 32 + n ≤ 32) ⌝ }
     ensures { λ r. ⌜ r ≡ anyBelow (λ i. keyed keys (codeOf (now (memory .entry)) z y (first + i))) n ⌝ }
 {
-    let c = run_start(z, y, first, 0);
-    let b = run_start(z, y, first, 1);
+    let c = start(z, y, first, 0);
+    let b = start(z, y, first, 1);
     let mut found = false;
     for i in 0..n {
         let byte = memory[b + i];

@@ -1,5 +1,5 @@
 use borrow.Author.Tests.{eq-eqb, ne-eqb}
-use Rattle.reading.specs.Runs.{codeBlock}
+use Rattle.reading.specs.HowAsked.{codeBlock}
 use borrow.Author.Needs.{needs}
 use Rattle.reading.proofs.key.is_code_block.Statement.{statement}
 use Rattle.reading.proofs.key.is_code_block.Tie as tie

@@ -1,5 +1,5 @@
 use borrow.Author.Tests.{eq-eqb, ne-eqb}
-use Rattle.reading.specs.Runs.{isSource}
+use Rattle.reading.specs.HowAsked.{isSource}
 use Rattle.reading.proofs.key.is_source.Statement.{statement}
 use Rattle.reading.proofs.key.is_source.Tie as tie
 

@@ -1,5 +1,5 @@
 use Rattle.reading.proofs.Places.{legal-row}
-use Rattle.reading.specs.Runs.{keysOf}
+use Rattle.reading.specs.HowAsked.{keysOf}
 use native.Mathlib.Omega.{arith}
 use borrow.Author.Needs.{needs}
 use Rattle.reading.proofs.key.keys_of.Statement.{statement}
@@ -28,7 +28,7 @@ key-if-requires-3 c κs = search needs
 
 returns : tie.Need-returns
 unfolding keysOf
-returns c = rw (c .before .before .before .before .before .before .key-if .ensures, c .before .before .before .key-if2 .ensures, c .key-if3 .ensures)
+returns c = rw (c .before .before .before .before .before .before .before .before .key-if .ensures, c .before .before .before .before .key-if2 .ensures, c .key-if3 .ensures)
 
 pub keys-of-spec : {M : Type 1} → statement M
 keys-of-spec =

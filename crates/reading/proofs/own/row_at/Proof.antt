@@ -1,4 +1,3 @@
-use mathlib.Core.Logic.{⊎-elim}
 use Prim.Native.Nat.{ℕ, _+_, _-_, _%_}
 use mathlib.Core.Path.{_≡_, sym, ap, _∙_}
 use native.Mathlib.Omega.{arith}
@@ -9,6 +8,12 @@ use Rattle.reading.proofs.own.row_at.Tie as tie
 
 returns : tie.Need-returns
 returns c = sym (row-at-service _ _ (c .if1 .taken))
+
+past-eight-requires : tie.Need-past-eight-requires
+past-eight-requires c κs = search needs
+
+cast-on : tie.Need-cast-on
+cast-on c = search needs
 
 add-on : tie.Need-add-on
 add-on c = search needs
@@ -23,10 +28,8 @@ add-result : tie.Need-add-result
 add-result c = search needs
 
 returns-2 : tie.Need-returns-2
-returns-2 c = let s = c .before .before .before .args in
-    let h = row-at-other (s .yor) (s .y) (c .before .before .if1 .left) in
-    let e : c .before .if2 .first ≡ s .yor - 8 = ⊎-elim (λ w. omega arith) (λ w. omega arith) (c .before .if2 .came) in
-    ap (λ (f : ℕ). 1 + (s .y + 16 - f % 24) % 24) e ∙ sym h
+returns-2 c = let s = c .before .before .args in
+    ap (λ (f : ℕ). 1 + (s .y + 16 - f % 24) % 24) (c .past-eight .ensures) ∙ sym (row-at-other (s .yor) (s .y) (c .before .if1 .left))
 
 pub row-at-spec : {M : Type 1} → statement M
-row-at-spec = tie.close (tie.spec returns add-on sub-on cast-result add-result returns-2)
+row-at-spec = tie.close (tie.spec returns add-on past-eight-requires cast-on sub-on cast-result add-result returns-2)

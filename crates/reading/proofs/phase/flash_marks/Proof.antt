@@ -1,4 +1,6 @@
-use Prim.Native.Nat.{_-_}
+use mathlib.Core.Path.{ap, _∙_}
+use Rattle.address.specs.Rows.{rowY}
+use Prim.Native.Nat.{ℕ, _-_}
 use native.Mathlib.Omega.{arith}
 use Rattle.address.proofs.Laws.{row-small}
 use Rattle.reading.specs.Marks.{flashIn}
@@ -8,16 +10,19 @@ use Rattle.reading.proofs.phase.flash_marks.Statement.{statement}
 use Rattle.reading.proofs.phase.flash_marks.Tie as tie
 
 abbrev Inv-loop : tie.InvT-loop
-Inv-loop ror memory marks z after₀ r₀ after r = MarkedTo (flashIn ror memory) marks after r
+Inv-loop shown memory marks z after₀ r₀ after r = MarkedTo (flashIn shown memory) marks after r
 
 abbrev μ-loop : tie.MeasureT-loop
-μ-loop ror memory marks z after₀ r₀ after r = 25 - r
+μ-loop shown memory marks z after₀ r₀ after r = 25 - r
 
 first-block-requires : tie.Need-first-block-requires Inv-loop μ-loop
 first-block-requires c κs = search needs
 
 loop-holds : tie.Need-loop-holds Inv-loop μ-loop
 loop-holds c = marked-start _ _ (search needs)
+
+yor-requires : tie.Need-yor-requires Inv-loop μ-loop
+yor-requires c κs = search needs
 
 cast-row-y : tie.Need-cast-row-y Inv-loop μ-loop
 cast-row-y c = search needs
@@ -42,9 +47,10 @@ loop-less c = omega arith
 
 loop-again : tie.Need-loop-again Inv-loop μ-loop
 loop-again c = let y = c .before in
-    let a = y .before .before in
+    let o = y .before in
+    let a = o .before .before in
     let b = a .before in
-    flash-turn _ _ _ _ _ (b .first-block .ensures) (y .row-y .ensures) _ _ _ (a .loop .inv) (y .before .loop-test .taken) (c .is-marked-or-flashes .ensures)
+    flash-turn (b .before .before .args .shown) _ _ _ _ (b .first-block .ensures) (y .row-y .ensures ∙ ap (λ (k : ℕ). rowY k (a .loop .r)) (o .yor .ensures)) _ _ _ (a .loop .inv) (o .before .loop-test .taken) (c .is-marked-or-flashes .ensures)
 
 returns : tie.Need-returns Inv-loop μ-loop
 returns c = marked-end _ _ _ _ (c .before .loop .inv) (c .loop-test .left)
@@ -57,6 +63,7 @@ flash-marks-spec =
     μ-loop
     first-block-requires
     loop-holds
+    yor-requires
     cast-row-y
     row-y-requires
     array-read-is-marked-or-flashes

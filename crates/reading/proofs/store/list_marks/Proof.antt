@@ -9,10 +9,10 @@ use Rattle.reading.proofs.store.list_marks.Statement.{statement}
 use Rattle.reading.proofs.store.list_marks.Tie as tie
 
 abbrev Inv-loop : tie.InvT-loop
-Inv-loop ror dor memory at marks z keys code end after₀ reached₀ r₀ after reached r = (end ≤ 25) × AskedTo ror dor memory (placeOf (at .x) (at .y) (at .z)) marks after reached r
+Inv-loop shown memory at marks z keys code end after₀ reached₀ r₀ after reached r = (end ≤ 25) × AskedTo shown memory (placeOf (at .x) (at .y) (at .z)) marks after reached r
 
 abbrev μ-loop : tie.MeasureT-loop
-μ-loop ror dor memory at marks z keys code end after₀ reached₀ r₀ after reached r = end - r
+μ-loop shown memory at marks z keys code end after₀ reached₀ r₀ after reached r = end - r
 
 first-block-requires : tie.Need-first-block-requires Inv-loop μ-loop
 first-block-requires c κs = search needs
@@ -27,7 +27,10 @@ unmarked-end-requires : tie.Need-unmarked-end-requires Inv-loop μ-loop
 unmarked-end-requires c κs = search needs
 
 loop-holds : tie.Need-loop-holds Inv-loop μ-loop
-loop-holds c = (rw (c .unmarked-end .ensures) (end-at-most _ 25), asked-start _ _ _ _ _ (search needs))
+loop-holds c = (rw (c .unmarked-end .ensures) (end-at-most _ 25), asked-start _ _ _ _ (search needs))
+
+yor-requires : tie.Need-yor-requires Inv-loop μ-loop
+yor-requires c κs = search needs
 
 row-at-requires : tie.Need-row-at-requires Inv-loop μ-loop
 row-at-requires c κs = search needs
@@ -57,16 +60,17 @@ add-r : tie.Need-add-r Inv-loop μ-loop
 add-r c = search needs
 
 loop-less : tie.Need-loop-less Inv-loop μ-loop
-loop-less c = omega (arith, c .before .before .before .loop-test .taken)
+loop-less c = omega (arith, c .before .before .before .before .loop-test .taken)
 
 loop-again : tie.Need-loop-again Inv-loop μ-loop
 loop-again c = let y = c .before .before in
-    let a = y .before .before in
+    let o = y .before in
+    let a = o .before .before in
     let n = a .before in
     let b = n .before in
     let f = b .before .before in
     let s = f .before .before in
-    (a .loop .inv .0, asked-turn _ _ _ _ _ (s .pre .1) (omega arith) (λ k. omega (arith, f .before .shared-slice-known .given k)) _ _ _ (f .first-block .ensures) (b .before .keys-of .ensures) (b .is-code-block .ensures) _ _ _ _ _ _ (a .loop .inv .1) (omega (arith, y .before .loop-test .taken)) (y .row-at .ensures) (c .before .is-reached .ensures) (c .is-marked-or-keyed .ensures))
+    (a .loop .inv .0, asked-turn (s .args .shown) _ _ _ (s .pre .1) (λ k. omega (arith, f .before .shared-slice-known .given k)) _ _ _ (f .first-block .ensures) (b .before .keys-of .ensures) (b .is-code-block .ensures) _ (o .yor .ensures) _ _ _ _ _ _ (a .loop .inv .1) (omega (arith, o .before .loop-test .taken)) (y .row-at .ensures) (c .before .is-reached .ensures) (c .is-marked-or-keyed .ensures))
 
 returns : tie.Need-returns Inv-loop μ-loop
 returns c = marked-early _ _ _ _ (c .before .loop .inv .1 .marked) (rw (← c .before .before .unmarked-end .ensures) (c .loop-test .left))
@@ -82,6 +86,7 @@ list-marks-spec =
     is-code-block-requires
     unmarked-end-requires
     loop-holds
+    yor-requires
     row-at-requires
     cast-own
     cast-is-reached

@@ -6,7 +6,7 @@ use mathlib.Core.Logic.{⊎-elim}
 use native.Mathlib.Omega.{arith}
 use Rattle.basics.specs.Below.{endBelow}
 use Rattle.basics.proofs.Below.{end-none, end-step}
-use Rattle.reading.specs.Runs.{isUnmarked}
+use Rattle.reading.specs.HowAsked.{isUnmarked}
 use borrow.Author.Needs.{needs}
 use Rattle.reading.proofs.store.unmarked_end.Statement.{statement}
 use Rattle.reading.proofs.store.unmarked_end.Tie as tie

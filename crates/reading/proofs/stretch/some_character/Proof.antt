@@ -1,28 +1,29 @@
+use Rattle.address.specs.Boards.{boardBlocks, memoryBytes}
 use Prim.Native.Nat.{_+_, _≤_, _-_}
 use mathlib.Core.Path.{_≡_, refl, ap, _∙_}
 use native.Mathlib.Omega.{arith}
 use Rattle.basics.specs.Below.{anyBelow}
 use Rattle.page.specs.Codes.{codeOf}
-use Rattle.reading.specs.Runs.{showsCharacter}
+use Rattle.reading.specs.HowAsked.{showsCharacter}
 use Rattle.reading.proofs.Tests.{gathered}
-use Rattle.reading.proofs.Rows.{run-fits, run-c, character-test}
+use Rattle.reading.proofs.Rows.{stretch-fits, stretch-c, character-test}
 use borrow.Author.Needs.{needs}
-use Rattle.reading.proofs.run.some_character.Statement.{statement}
-use Rattle.reading.proofs.run.some_character.Tie as tie
+use Rattle.reading.proofs.stretch.some_character.Statement.{statement}
+use Rattle.reading.proofs.stretch.some_character.Tie as tie
 
 abbrev Inv-loop : tie.InvT-loop
-Inv-loop memory z y first n t c found₀ i₀ found i = (i ≤ n) × (c + n ≤ 16384) × (found ≡ anyBelow (λ j. showsCharacter t (codeOf memory z y (first + j))) i)
+Inv-loop memory z y first n t c found₀ i₀ found i = (i ≤ n) × (c + n ≤ memoryBytes) × (found ≡ anyBelow (λ j. showsCharacter t (codeOf memory z y (first + j))) i)
 
 abbrev μ-loop : tie.MeasureT-loop
 μ-loop memory z y first n t c found₀ i₀ found i = n - i
 
-run-start-requires : tie.Need-run-start-requires Inv-loop μ-loop
-run-start-requires c κs = search needs
+start-requires : tie.Need-start-requires Inv-loop μ-loop
+start-requires c κs = search needs
 
 loop-holds : tie.Need-loop-holds Inv-loop μ-loop
 unfolding anyBelow
 loop-holds c = let p = c .before .before .pre in
-    (omega arith, run-fits _ _ _ _ 0 _ (c .run-start .ensures) (p .1) (p .2) (p .3) (p .4), refl)
+    (omega arith, stretch-fits boardBlocks _ _ _ _ 0 _ (c .start .ensures) (omega arith) (p .2) (p .3) (p .4), refl)
 
 add-found : tie.Need-add-found Inv-loop μ-loop
 add-found c = search needs
@@ -40,7 +41,7 @@ loop-again : tie.Need-loop-again Inv-loop μ-loop
 loop-again c = let a = c .before .before in
     let l = a .loop in
     let s = a .before .before .before .args in
-    (omega arith, l .inv .1, gathered _ _ _ _ (l .inv .2) (character-test _ _ _ (run-c (s .first) (l .i) (omega arith) (omega arith) _ _ _ _ (a .before .run-start .ensures))))
+    (omega arith, l .inv .1, gathered _ _ _ _ (l .inv .2) (character-test _ _ _ (stretch-c (s .first) (l .i) (omega arith) (omega arith) _ _ _ _ (a .before .start .ensures))))
 
 returns : tie.Need-returns Inv-loop μ-loop
 returns c = let l = c .before .loop in
@@ -53,7 +54,7 @@ some-character-spec =
     (tie.spec
     Inv-loop
     μ-loop
-    run-start-requires
+    start-requires
     loop-holds
     add-found
     shared-slice-read-found

@@ -1,3 +1,4 @@
+use Rattle.address.specs.Boards.{boardBlocks, memoryBytes}
 use Prim.Native.Nat.{_+_, _≤_, _-_}
 use mathlib.Core.Path.{_≡_, refl, ap, _∙_}
 use native.Mathlib.Omega.{arith}
@@ -5,24 +6,24 @@ use Rattle.basics.specs.Below.{anyBelow}
 use Rattle.page.specs.Codes.{codeOf}
 use Rattle.reading.proofs.Tests.{gathered}
 use Rattle.page.specs.Halves.{isTall}
-use Rattle.reading.proofs.Rows.{run-fits, run-b, tall-test}
+use Rattle.reading.proofs.Rows.{stretch-fits, stretch-b, tall-test}
 use borrow.Author.Needs.{needs}
-use Rattle.reading.proofs.run.some_tall.Statement.{statement}
-use Rattle.reading.proofs.run.some_tall.Tie as tie
+use Rattle.reading.proofs.stretch.some_tall.Statement.{statement}
+use Rattle.reading.proofs.stretch.some_tall.Tie as tie
 
 abbrev Inv-loop : tie.InvT-loop
-Inv-loop memory z y first n b found₀ i₀ found i = (i ≤ n) × (b + n ≤ 16384) × (found ≡ anyBelow (λ j. isTall (codeOf memory z y (first + j))) i)
+Inv-loop memory z y first n b found₀ i₀ found i = (i ≤ n) × (b + n ≤ memoryBytes) × (found ≡ anyBelow (λ j. isTall (codeOf memory z y (first + j))) i)
 
 abbrev μ-loop : tie.MeasureT-loop
 μ-loop memory z y first n b found₀ i₀ found i = n - i
 
-run-start-requires : tie.Need-run-start-requires Inv-loop μ-loop
-run-start-requires c κs = search needs
+start-requires : tie.Need-start-requires Inv-loop μ-loop
+start-requires c κs = search needs
 
 loop-holds : tie.Need-loop-holds Inv-loop μ-loop
 unfolding anyBelow
 loop-holds c = let p = c .before .before .pre in
-    (omega arith, run-fits _ _ _ _ 1 _ (c .run-start .ensures) (p .1) (p .2) (p .3) (p .4), refl)
+    (omega arith, stretch-fits boardBlocks _ _ _ _ 1 _ (c .start .ensures) (omega arith) (p .2) (p .3) (p .4), refl)
 
 add-byte : tie.Need-add-byte Inv-loop μ-loop
 add-byte c = search needs
@@ -40,7 +41,7 @@ loop-again : tie.Need-loop-again Inv-loop μ-loop
 loop-again c = let a = c .before .before in
     let l = a .loop in
     let s = a .before .before .before .args in
-    (omega arith, l .inv .1, gathered _ _ _ _ (l .inv .2) (tall-test _ _ (omega (arith, c .shared-slice-known2 .given (a .before .run-start .result + l .i))) (run-b (s .first) (l .i) (omega arith) (omega arith) _ _ _ _ (a .before .run-start .ensures))))
+    (omega arith, l .inv .1, gathered _ _ _ _ (l .inv .2) (tall-test _ _ (omega (arith, c .shared-slice-known2 .given (a .before .start .result + l .i))) (stretch-b (s .first) (l .i) (omega arith) (omega arith) _ _ _ _ (a .before .start .ensures))))
 
 returns : tie.Need-returns Inv-loop μ-loop
 returns c = let l = c .before .loop in
@@ -53,7 +54,7 @@ some-tall-spec =
     (tie.spec
     Inv-loop
     μ-loop
-    run-start-requires
+    start-requires
     loop-holds
     add-byte
     shared-slice-read-byte

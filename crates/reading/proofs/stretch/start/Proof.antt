@@ -1,6 +1,6 @@
 use borrow.Author.Needs.{needs}
-use Rattle.reading.proofs.run.run_start.Statement.{statement}
-use Rattle.reading.proofs.run.run_start.Tie as tie
+use Rattle.reading.proofs.stretch.start.Statement.{statement}
+use Rattle.reading.proofs.stretch.start.Tie as tie
 
 block-requires : tie.Need-block-requires
 block-requires c κs = search needs
@@ -14,5 +14,5 @@ place-at-requires c κs = search needs
 returns : tie.Need-returns
 returns c = rw (c .place-at .ensures, c .before .block .ensures)
 
-pub run-start-spec : {M : Type 1} → statement M
-run-start-spec = tie.close (tie.spec block-requires cast-place-at place-at-requires returns)
+pub start-spec : {M : Type 1} → statement M
+start-spec = tie.close (tie.spec block-requires cast-place-at place-at-requires returns)
