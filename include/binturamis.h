@@ -6,9 +6,9 @@
  * picture is right only if nothing else writes the memory and the picture, if the ROM stays as it is, and if each call is given the
  * processor that the call before it left.
  *
- * Answers. write, read, turn and draw answer 256 * number + value. Number 0 is accepted; any other is a refusal, by its number below.
- * The value of an accepted read is the register's, that of an accepted draw the rows redrawn, and every other value of an accepted call
- * is 0. binturamis_number and binturamis_value take an answer apart.
+ * Answers. write, read, turn and draw answer 65,536 * number + value, the value having 16 bits. Number 0 is accepted; any other is a
+ * refusal, by its number below. The value of an accepted read is the register's, that of an accepted draw the rows redrawn, and every
+ * other value of an accepted call is 0. binturamis_number and binturamis_value take an answer apart.
  *
  * Buffers. No pointer may be NULL. No two of the things lent to one call may overlap, except the memory and the ROM of a draw, which are
  * only read; nor may anybody else write them meanwhile. A length is the number of bytes that may be touched from its pointer on. Any length
@@ -166,13 +166,13 @@ void binturamis_state(const binturamis_processor *p, uint8_t out[48]);
 /* The number of an answer: 0, or the refusal's. */
 static inline uint32_t binturamis_number(uint32_t answer)
 {
-    return answer / 256u;
+    return answer / 65536u;
 }
 
 /* The value of an answer: the register read, or the rows redrawn. */
-static inline uint8_t binturamis_value(uint32_t answer)
+static inline uint16_t binturamis_value(uint32_t answer)
 {
-    return (uint8_t)(answer % 256u);
+    return (uint16_t)(answer % 65536u);
 }
 
 #ifdef __cplusplus

@@ -32,7 +32,7 @@ static uint8_t get(struct panel *panel, uint8_t address)
 {
     uint32_t answer = binturamis_read(&panel->processor, panel->memory, sizeof panel->memory, address);
     expect_accepted("a read", answer);
-    return binturamis_value(answer);
+    return (uint8_t)binturamis_value(answer); /* a register is a byte */
 }
 
 void put_indirect(struct panel *panel, uint8_t r, uint8_t value)

@@ -16,7 +16,7 @@
 #include "binturamis.h"
 
 /* Ends with a newline, and counts up when what goes over the pipes changes. */
-#define GREETING "binturamis bridge 1\n"
+#define GREETING "binturamis bridge 2\n"
 
 /* The bytes past a buffer's length that no call may change either. */
 #define SPARE 64

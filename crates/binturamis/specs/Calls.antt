@@ -7,9 +7,9 @@ use Rattle.processor.specs.Access.{Outcome}
 use Rattle.processor.specs.Draws.{DrawOutcome}
 use Rattle.binturamis.specs.Layouts.{packed}
 
--- 256 times the answer's number, and its value, or for a draw its rows
+-- 65,536 times the answer's number, and its value, or for a draw its rows
 abbrev pub word : ℕ → ℕ → ℕ
-word number value = 256 * number + value
+word number value = 65536 * number + value
 
 -- of an access or a phase change: the 64 bytes and the private memory
 pub record Called : Type 0 where

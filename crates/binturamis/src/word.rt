@@ -11,7 +11,7 @@ pub fn word(answer: Answer) -> u32
 {
     let number = answer.number();
     let value = answer.value();
-    256 * (number as u32) + value as u32
+    65536 * (number as u32) + value as u32
 }
 
 pub fn draw_word(answer: Drawing) -> u32
@@ -20,5 +20,5 @@ pub fn draw_word(answer: Drawing) -> u32
 {
     let number = answer.number();
     let rows = answer.rows();
-    256 * (number as u32) + rows as u32
+    65536 * (number as u32) + rows as u32
 }

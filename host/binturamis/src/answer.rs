@@ -1,4 +1,4 @@
-//! An answer of the library, taken apart: 256 times the number, and the value.
+//! An answer of the library, taken apart: 65,536 times the number, and the value.
 
 use crate::refusal::Refusal;
 
@@ -6,7 +6,7 @@ use crate::refusal::Refusal;
 pub(crate) struct Answer {
     /// None, if the operation was accepted.
     pub refusal: Option<Refusal>,
-    /// The register read, or the rows redrawn.
+    /// The register read, or the rows redrawn. An answer has room for 16 bits; both are bytes.
     pub value: u8,
 }
 
@@ -14,12 +14,13 @@ impl Answer {
     /// Fails where the library answers what the rules do not know: so no part of an answer is
     /// dropped unseen.
     pub fn of(answered: u32) -> Answer {
-        let [value, number, high @ ..] = answered.to_le_bytes();
+        let [value, past_a_byte, number, past_the_numbers] = answered.to_le_bytes();
         let refusal = Refusal::of_number(number);
         let answer = Answer { refusal, value };
-        let known = high == [0, 0] && (number == 0 || refusal.is_some());
+        let known = past_the_numbers == 0 && (number == 0 || refusal.is_some());
+        let fits = past_a_byte == 0 && (value == 0 || answer.may_have_value());
         assert!(
-            known && (value == 0 || answer.may_have_value()),
+            known && fits,
             "the library answered {answered}, which the rules do not know"
         );
         answer

@@ -6,7 +6,7 @@ use std::io::Write;
 use std::path::Path;
 use std::process::{Command, Output, Stdio};
 
-const GREETING: &[u8] = b"binturamis bridge 1\n";
+const GREETING: &[u8] = b"binturamis bridge 2\n";
 
 /// What the bridge does with these bytes and no more.
 fn given(bytes: &[u8]) -> Output {

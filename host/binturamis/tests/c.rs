@@ -72,6 +72,35 @@ fn the_example_prints_what_is_expected() -> Result<(), String> {
     Ok(())
 }
 
+/// Ends with 0 if the header takes apart what it says it does: a number above, and a value of 16 bits.
+const TAKEN_APART: &str = r#"
+#include "binturamis.h"
+
+int main(void)
+{
+    uint32_t answer = 65536u * BINTURAMIS_WRONG_PHASE + 0xABCDu;
+    return !(binturamis_number(answer) == BINTURAMIS_WRONG_PHASE && binturamis_value(answer) == 0xABCDu);
+}
+"#;
+
+#[test]
+fn an_answer_is_taken_apart() -> Result<(), String> {
+    let room = Path::new(env!("CARGO_TARGET_TMPDIR"));
+    let (source, program) = (room.join("taken_apart.c"), room.join("taken_apart"));
+    fs::write(&source, TAKEN_APART).map_err(|error| error.to_string())?;
+    let mut compile = compiler("c")?;
+    compile
+        .arg("-std=c11")
+        .args(WARNINGS)
+        .args(["-static", "-I", LIBRARY])
+        .arg(&source)
+        .arg("-o")
+        .arg(&program);
+    printed(&mut compile)?;
+    printed(&mut runner(&program))?;
+    Ok(())
+}
+
 #[test]
 fn the_header_is_c_and_cpp_by_itself() -> Result<(), String> {
     let header = top().join("include/binturamis.h");
