@@ -9,7 +9,7 @@
 .PHONY: panel library rom demo bench test check format
 
 panel: target/bin/panel
-	@cd host && cargo run --quiet --release --offline -p compare --example panel <../crates/panel/stdin
+	@cd host && cargo run --quiet --release --offline -p panel <../crates/panel/stdin
 
 target/bin/panel:
 	rt check panel

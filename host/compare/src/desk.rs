@@ -1,38 +1,55 @@
-//! The second program in the place of `lockstep`: a processor with buffers of which any length can
-//! be lent.
+//! A processor with the buffers that are lent to it, of which any length can be lent. The library's
+//! and the second program's stand at desks of the same kind, so that both are asked the same.
 
-use second::{Answer, Operation, Processor};
+use second::{Answer, Operation};
 
+use crate::asked::Asked;
 use crate::lengths::Lengths;
-use crate::record::Asked;
+use crate::report::Report;
 
-pub struct Desk {
-    pub processor: Processor,
+/// A processor, of the library or of the second program.
+pub trait Side {
+    fn power_up() -> Self;
+
+    fn operate(&mut self, operation: Operation, lent: Lent) -> Answer;
+
+    /// An answer with the whole state after it.
+    fn report(&self, answer: Answer) -> Report;
+}
+
+/// The parts of the buffers that an operation is lent.
+pub struct Lent<'a> {
+    pub memory: &'a mut [u8],
+    pub rom: &'a [u8],
+    pub picture: &'a mut [u8],
+}
+
+#[derive(Clone)]
+pub struct Desk<S> {
+    pub processor: S,
     pub memory: Vec<u8>,
     pub rom: Vec<u8>,
     pub picture: Vec<u8>,
 }
 
-impl Desk {
+impl<S: Side> Desk<S> {
     /// Power-up with whole buffers, and a picture of zeros.
-    pub fn begin(memory: Vec<u8>, rom: Vec<u8>) -> Desk {
+    pub fn begin(memory: Vec<u8>, rom: Vec<u8>) -> Desk<S> {
         Desk {
-            processor: Processor::power_up(),
+            processor: S::power_up(),
             memory,
             rom,
             picture: vec![0; Lengths::WHOLE.picture],
         }
     }
 
-    pub fn apply(&mut self, asked: Asked) -> Answer {
-        let memory = &mut self.memory[..asked.lengths.memory];
-        let rom = &self.rom[..asked.lengths.rom];
-        let picture = &mut self.picture[..asked.lengths.picture];
-        match asked.operation {
-            Operation::Write { address, value } => self.processor.write(memory, address, value),
-            Operation::Read { address } => self.processor.read(memory, address),
-            Operation::Turn { phase } => self.processor.turn(memory, phase),
-            Operation::Draw => self.processor.draw(memory, rom, picture),
-        }
+    pub fn apply(&mut self, asked: Asked) -> Report {
+        let lent = Lent {
+            memory: &mut self.memory[..asked.lengths.memory],
+            rom: &self.rom[..asked.lengths.rom],
+            picture: &mut self.picture[..asked.lengths.picture],
+        };
+        let answer = self.processor.operate(asked.operation, lent);
+        self.processor.report(answer)
     }
 }

@@ -3,7 +3,7 @@
 use second::random::Random;
 use second::{MEMORY, PICTURE, ROM};
 
-/// The bytes that each buffer of `lockstep` has past its right length.
+/// The bytes that each buffer has past its right length.
 pub const SPARE: usize = 16;
 
 #[derive(Clone, Copy, Debug, PartialEq, Eq)]
@@ -35,12 +35,6 @@ impl Lengths {
             picture: right_or_wrong(random, PICTURE),
         }
     }
-
-    /// Three numbers of two bytes, low byte first.
-    pub fn bytes(&self) -> [u8; 6] {
-        let [m, r, p] = [self.memory, self.rom, self.picture].map(two_bytes);
-        [m[0], m[1], r[0], r[1], p[0], p[1]]
-    }
 }
 
 fn right_or_wrong(random: &mut Random, right: usize) -> usize {
@@ -55,10 +49,4 @@ fn right_or_wrong(random: &mut Random, right: usize) -> usize {
 fn wrong(random: &mut Random, right: usize) -> usize {
     let shorter = random.below(right);
     random.choice(&[0, right - 1, right + 1, right + SPARE, shorter])
-}
-
-fn two_bytes(length: usize) -> [u8; 2] {
-    u16::try_from(length)
-        .expect("a buffer is shorter than 65,536 bytes")
-        .to_le_bytes()
 }

@@ -1,14 +1,13 @@
-//! What the steps of the trials met, counted, so that a tame choice of operations is seen.
+//! What the operations of the trials met, counted, so that a tame choice of them is seen.
 
 use std::fmt;
 
 use second::Operation;
 
-use crate::record::{Asked, Record};
-use crate::report::Report;
-use crate::step::{Reply, Step};
+use crate::asked::Asked;
+use crate::trial::Step;
 
-/// How often each number was wanted of each kind of operation.
+/// How often each number was answered to each kind of operation.
 type Numbers = [[usize; 10]; 4];
 
 /// The kinds, and the numbers that each can get.
@@ -30,27 +29,12 @@ pub struct Met {
     rows: [usize; 26],
     /// Accesses that changed a byte of the memory.
     pub stores: usize,
-    memories: usize,
-    pictures: usize,
-    memory: Vec<u8>,
 }
 
 impl Met {
     pub fn look(&mut self, step: &Step) {
-        match (&step.record, &step.wanted) {
-            (Record::Operation(asked), Reply::Report(report)) => self.look_at(*asked, report),
-            (Record::Memory, Reply::Buffer(memory)) => {
-                self.memories += 1;
-                self.stores += usize::from(self.memory != *memory);
-                self.memory.clone_from(memory);
-            }
-            (Record::Picture, _) => self.pictures += 1,
-            (Record::Begin { memory, .. }, _) => self.memory.clone_from(memory),
-            _ => {}
-        }
-    }
-
-    fn look_at(&mut self, asked: Asked, report: &Report) {
+        let (asked, report) = (step.asked, &step.report);
+        self.stores += usize::from(step.stored);
         self.numbers[kind_of(asked)][usize::from(report.number)] += 1;
         self.lx[0] += usize::from(report.lxm);
         self.lx[1] += usize::from(report.lxa);
@@ -111,11 +95,6 @@ impl fmt::Display for Met {
         writeln!(to, "left with LXm, LXa set: {:?} times", self.lx)?;
         writeln!(to, "left in phase 0, 1: {:?} times", self.phases)?;
         writeln!(to, "accepted draws of 0 to 25 rows: {:?}", self.rows)?;
-        writeln!(to, "accesses that changed a byte: {}", self.stores)?;
-        write!(
-            to,
-            "whole memories compared: {}, whole pictures: {}",
-            self.memories, self.pictures
-        )
+        write!(to, "accesses that changed a byte: {}", self.stores)
     }
 }

@@ -1,13 +1,7 @@
 //! The answer of an operation with the whole state after it.
 
-use std::io::{self, Read};
-
+use binturamis::{PROCESSOR_BYTES, STATE_BYTES};
 use second::{Answer, Processor, ROWS};
-
-const BYTES: usize = 46;
-
-/// The bytes in which the library tells its state.
-pub const STATE: usize = 48;
 
 /// Flags are kept as bytes, so that a byte which is neither 0 nor 1 is a difference.
 #[derive(Clone, Debug, PartialEq, Eq)]
@@ -42,7 +36,7 @@ impl Report {
 
     /// What the library answers and leaves, by the 48 bytes in which it tells its state. Of the
     /// status LXm and LXa are kept, since a status that is not theirs fails here.
-    pub fn told(answer: Answer, state: &[u8; STATE]) -> Report {
+    pub fn told(answer: Answer, state: &[u8; STATE_BYTES]) -> Report {
         let (lxm, lxa) = lx_bits(state[8]);
         assert_eq!(state[40..], [0; 8], "the bytes past the marks");
         let [tgs, mat, pat, dor, ror] = part(state, 9);
@@ -60,19 +54,14 @@ impl Report {
         }
     }
 
-    pub fn read(from: &mut impl Read) -> io::Result<Report> {
-        let mut bytes = [0; BYTES];
-        from.read_exact(&mut bytes)?;
-        Ok(Report {
-            number: bytes[0],
-            value: bytes[1],
-            registers: part(&bytes, 2),
-            indirect: part(&bytes, 10),
-            lxm: bytes[18],
-            lxa: bytes[19],
-            phase: bytes[20],
-            marks: part(&bytes, 21),
-        })
+    /// The bytes that the library keeps of a processor in this state. They have all eight indirect
+    /// registers, while it tells five.
+    pub fn packed(&self) -> [u8; PROCESSOR_BYTES] {
+        let flags = [self.lxm, self.lxa, self.phase];
+        let parts: [&[u8]; 4] = [&self.registers, &self.indirect, &flags, &self.marks];
+        let mut bytes = parts.concat();
+        bytes.resize(PROCESSOR_BYTES, 0);
+        part(&bytes, 0)
     }
 }
 

@@ -8,11 +8,11 @@ use second::half::{shows_lower, shows_right};
 use second::page::first_block;
 use second::{COLUMNS, ROWS};
 
-use crate::request::Request;
+use crate::page::Page;
 
 /// A cell as a redraw shows it: in a marked row.
 struct Shown<'a> {
-    request: &'a Request,
+    page: &'a Page,
     cell: Cell,
     row: usize,
     lower: bool,
@@ -52,11 +52,11 @@ const TESTS: [(&str, Test); 25] = [
     ("right half", |shown| shown.right),
     ("lower right quarter", |shown| shown.lower && shown.right),
     ("lower half below a row that is not marked", |shown| {
-        shown.lower && !shown.request.marks[shown.row - 1]
+        shown.lower && !shown.page.marks[shown.row - 1]
     }),
     ("underlined", |shown| shown.cell.is_underlined()),
     ("concealed", |shown| {
-        shown.cell.is_concealed() && shown.request.pat / 0x08 % 2 == 1
+        shown.cell.is_concealed() && shown.page.pat / 0x08 % 2 == 1
     }),
     ("flashing, shown", |shown| {
         shown.flashes() && !shown.is_hidden()
@@ -78,23 +78,23 @@ const TESTS: [(&str, Test); 25] = [
 
 impl Shown<'_> {
     fn flashes(&self) -> bool {
-        self.cell.is_flashing() && self.request.pat / 0x40 % 2 == 1
+        self.cell.is_flashing() && self.page.pat / 0x40 % 2 == 1
     }
 
     fn is_hidden(&self) -> bool {
-        self.request.phase != self.cell.negative()
+        self.page.phase != self.cell.negative()
     }
 
     /// The block of private memory that holds the cell's slices, if one does.
     fn block(&self) -> Option<usize> {
-        match self.cell.source(self.request.dor) {
+        match self.cell.source(self.page.dor) {
             Source::Rom(_) => None,
             Source::Block(z) => Some(z),
         }
     }
 
     fn is_shown_block(&self, z: usize) -> bool {
-        let first = first_block(self.request.ror);
+        let first = first_block(self.page.ror);
         (0..3).any(|byte| code_block(first, byte) == z)
     }
 }
@@ -110,28 +110,28 @@ pub struct Seen {
 }
 
 impl Seen {
-    /// Counts the page of a request and the cells of its marked rows.
-    pub fn look(&mut self, request: &Request) {
-        self.origins[usize::from(request.ror % 32 - 8)] += 1;
-        self.first_blocks[usize::from(request.ror / 32)] += 1;
-        self.phases[usize::from(request.phase)] += 1;
-        for row in (0..ROWS).filter(|row| request.marks[*row]) {
+    /// Counts a page and the cells of its marked rows.
+    pub fn look(&mut self, page: &Page) {
+        self.origins[usize::from(page.ror % 32 - 8)] += 1;
+        self.first_blocks[usize::from(page.ror / 32)] += 1;
+        self.phases[usize::from(page.phase)] += 1;
+        for row in (0..ROWS).filter(|row| page.marks[*row]) {
             self.rows += 1;
             for column in 0..COLUMNS {
-                self.look_at_cell(request, row, column);
+                self.look_at_cell(page, row, column);
             }
         }
     }
 
-    fn look_at_cell(&mut self, request: &Request, row: usize, column: usize) {
-        let processor = request.processor();
-        let page = processor.page(&request.memory);
+    fn look_at_cell(&mut self, page: &Page, row: usize, column: usize) {
+        let processor = page.second();
+        let cells = processor.page(&page.memory);
         let shown = Shown {
-            request,
-            cell: page.cell(row, column),
+            page,
+            cell: cells.cell(row, column),
             row,
-            lower: shows_lower(&page, row, column),
-            right: shows_right(&page, row, column),
+            lower: shows_lower(&cells, row, column),
+            right: shows_right(&cells, row, column),
         };
         for (count, (_, test)) in self.cells.iter_mut().zip(TESTS) {
             *count += usize::from(test(&shown));

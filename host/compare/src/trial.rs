@@ -1,5 +1,4 @@
-//! Trials: random sequences of operations as steps for `lockstep`, with what the second program
-//! answers to each.
+//! Trials: random sequences of operations from power-up, done by the library and the second program.
 
 use std::collections::VecDeque;
 
@@ -7,76 +6,59 @@ use second::random::Random;
 use second::sequence::Sequence;
 use second::MEMORY;
 
-use crate::desk::Desk;
+use crate::asked::Asked;
 use crate::lengths::{Lengths, SPARE};
-use crate::record::{Asked, Record};
+use crate::pair::Pair;
 use crate::report::Report;
-use crate::step::{Reply, Step};
 use crate::unplanned::unplanned;
 
-/// The operations of one sequence.
-const OPERATIONS: u64 = 500;
-
-/// At least so many operations, in sequences from power-up.
-pub fn steps(operations: u64) -> impl Iterator<Item = Step> + Send {
-    (0..operations.div_ceil(OPERATIONS)).flat_map(Trial::new)
-}
+/// The operations of one trial.
+pub const OPERATIONS: u64 = 500;
 
 /// The trial of a seed.
-struct Trial {
-    seed: u64,
+pub struct Trial {
     sequence: Sequence,
     random: Random,
-    desk: Desk,
+    pair: Pair,
     /// What is left of the unplanned operations.
     unplanned: VecDeque<Asked>,
-    /// The operations made so far, and the last of them.
-    made: u64,
-    last: Option<Asked>,
-    waiting: VecDeque<Step>,
+}
+
+/// An operation that both did, with the same outcome.
+pub struct Step {
+    pub asked: Asked,
+    pub report: Report,
+    /// Whether a byte of the memory is another than before.
+    pub stored: bool,
 }
 
 impl Trial {
-    fn new(seed: u64) -> Trial {
+    pub fn new(seed: u64) -> Trial {
         let mut sequence = Sequence::new(seed);
         let mut random = Random::new(!seed);
         let mut memory = sequence.memory();
         memory.extend(random.bytes(SPARE));
         let rom = random.bytes(Lengths::WHOLE.rom);
-        let mut trial = Trial {
-            seed,
+        Trial {
             sequence,
             random,
-            desk: Desk::begin(memory.clone(), rom.clone()),
+            pair: Pair::begin(seed, memory, rom),
             unplanned: VecDeque::new(),
-            made: 0,
-            last: None,
-            waiting: VecDeque::new(),
-        };
-        trial.push(Record::Begin { memory, rom }, Reply::Nothing);
-        trial
+        }
     }
 
-    fn push(&mut self, record: Record, wanted: Reply) {
-        self.waiting.push_back(Step {
-            seed: self.seed,
-            at: self.made,
-            last: self.last,
-            record,
-            wanted,
-        });
-    }
-
-    /// One operation, and a look at the whole buffers.
-    fn make(&mut self) {
+    pub fn step(&mut self) -> Step {
         let asked = self.asked();
-        let answer = self.desk.apply(asked);
-        self.made += 1;
-        self.last = Some(asked);
-        let report = Report::wanted(answer, &self.desk.processor);
-        self.push(Record::Operation(asked), Reply::Report(report));
-        self.push(Record::Memory, Reply::Buffer(self.desk.memory.clone()));
-        self.push(Record::Picture, Reply::Buffer(self.desk.picture.clone()));
+        let before = self.pair.second.memory.clone();
+        let report = self.pair.apply(asked);
+        let stored = self.pair.second.memory != before;
+        let bytes = self.pair.library.processor.bytes();
+        assert_eq!(*bytes, report.packed(), "{asked:?}: the bytes");
+        Step {
+            asked,
+            report,
+            stored,
+        }
     }
 
     /// Most often the sequence's next operation with the right lengths. Unplanned ones come before
@@ -88,25 +70,8 @@ impl Trial {
         if let Some(asked) = self.unplanned.pop_front() {
             return asked;
         }
-        let memory = &self.desk.memory[..MEMORY];
-        Asked {
-            operation: self.sequence.operation(&self.desk.processor, memory),
-            lengths: Lengths::RIGHT,
-        }
-    }
-
-    fn is_at_end(&self) -> bool {
-        self.made == OPERATIONS
-    }
-}
-
-impl Iterator for Trial {
-    type Item = Step;
-
-    fn next(&mut self) -> Option<Step> {
-        if self.waiting.is_empty() && !self.is_at_end() {
-            self.make();
-        }
-        self.waiting.pop_front()
+        let second = &self.pair.second;
+        let memory = &second.memory[..MEMORY];
+        Asked::right(self.sequence.operation(&second.processor, memory))
     }
 }

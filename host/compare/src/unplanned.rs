@@ -4,8 +4,8 @@
 use second::random::Random;
 use second::Operation;
 
+use crate::asked::Asked;
 use crate::lengths::Lengths;
-use crate::record::Asked;
 
 /// The commands that use a pointer.
 const POINTING: [u8; 12] = [
@@ -76,7 +76,7 @@ fn other_page(random: &mut Random) -> Vec<Asked> {
     vec![
         write(0x21, random.byte()),
         write(0x28, command),
-        right(Operation::Draw),
+        Asked::right(Operation::Draw),
     ]
 }
 
@@ -84,7 +84,7 @@ fn other_page(random: &mut Random) -> Vec<Asked> {
 fn executing(random: &mut Random) -> Asked {
     let register = random.byte() % 8;
     if register == 0 || random.one_in(2) {
-        right(Operation::Read {
+        Asked::right(Operation::Read {
             address: 0x28 + register,
         })
     } else {
@@ -93,12 +93,5 @@ fn executing(random: &mut Random) -> Asked {
 }
 
 fn write(address: u8, value: u8) -> Asked {
-    right(Operation::Write { address, value })
-}
-
-fn right(operation: Operation) -> Asked {
-    Asked {
-        operation,
-        lengths: Lengths::RIGHT,
-    }
+    Asked::right(Operation::Write { address, value })
 }

@@ -1,10 +1,8 @@
 //! The program `panel`: what it prints for the rules page's input, for inputs cut anywhere, for a
 //! refused last write and for random writes, next to what the second program prints.
 
-use compare::conversation::written;
-use compare::program::Program;
-use compare::writes::{any_execution, any_writes, planned_writes};
-use second::panel;
+use panel::program::Program;
+use panel::writes::{any_execution, any_writes, planned_writes};
 use second::random::Random;
 
 const EXAMPLE: [u8; 28] = [
@@ -20,14 +18,14 @@ const ZEROS: &str = "00 00 00 00 00 00 00 00";
 
 /// What the built program prints for an input.
 fn printed(program: &Program, input: &[u8]) -> Result<String, String> {
-    let bytes = written(program, input.to_vec())?;
+    let bytes = program.written(input.to_vec())?;
     String::from_utf8(bytes).map_err(|error| error.to_string())
 }
 
 /// What both programs print for an input; `told` says which input it is.
 fn agreed(program: &Program, told: &str, input: &[u8]) -> Result<String, String> {
     let printed = printed(program, input)?;
-    assert_eq!(printed, panel(input), "{told}");
+    assert_eq!(printed, second::panel(input), "{told}");
     Ok(printed)
 }
 

@@ -1,16 +1,16 @@
 //! Processors of any 64 bytes: each operation has one answer and one outcome, and it is the second
 //! program's from the state that the bytes tell.
 
-use binturamis::{Processor, PROCESSOR_BYTES};
+use binturamis::{Processor, State, PROCESSOR_BYTES};
 use compare::amount::at_least;
+use compare::asked::Asked;
+use compare::desk::Desk;
 use compare::lengths::Lengths;
-use compare::record::Asked;
+use compare::pair::Pair;
 use compare::report::Report;
 use compare::unplanned::unplanned;
 use second::random::Random;
 use second::Operation;
-
-use crate::desk::Desk;
 
 /// Any bytes; small ones, so that many pages can be drawn; or power-up's, but for a few.
 fn any_bytes(random: &mut Random) -> [u8; PROCESSOR_BYTES] {
@@ -28,20 +28,26 @@ fn any_bytes(random: &mut Random) -> [u8; PROCESSOR_BYTES] {
 }
 
 /// The library with such a processor, and buffers of any bytes.
-fn any_desk(random: &mut Random) -> Desk {
+fn any_desk(random: &mut Random) -> Desk<Processor> {
     let (memory, rom) = (Lengths::WHOLE.memory, Lengths::WHOLE.rom);
-    let mut desk = Desk::begin(random.bytes(memory), random.bytes(rom));
+    let mut desk: Desk<Processor> = Desk::begin(random.bytes(memory), random.bytes(rom));
     desk.processor = Processor::of_bytes(any_bytes(random));
     desk.picture = random.bytes(Lengths::WHOLE.picture);
     desk
 }
 
 /// The second program with the state that a processor tells, and the same buffers.
-fn second_desk(desk: &Desk) -> compare::desk::Desk {
-    let state = desk.processor.state();
-    let mut second = compare::desk::Desk::begin(desk.memory.clone(), desk.rom.clone());
-    second.picture.clone_from(&desk.picture);
-    second.processor = second::Processor {
+fn second_desk(desk: &Desk<Processor>) -> Desk<second::Processor> {
+    Desk {
+        processor: second_processor(desk.processor.state()),
+        memory: desk.memory.clone(),
+        rom: desk.rom.clone(),
+        picture: desk.picture.clone(),
+    }
+}
+
+fn second_processor(state: State) -> second::Processor {
+    second::Processor {
         registers: [
             state.command,
             state.r1,
@@ -61,8 +67,7 @@ fn second_desk(desk: &Desk) -> compare::desk::Desk {
         lx_auxiliary: state.status & 0x10 != 0,
         phase: state.phase,
         marks: state.marks,
-    };
-    second
+    }
 }
 
 /// A few operations of any kind, and then draws in both phases.
@@ -77,10 +82,7 @@ fn any_operations(random: &mut Random) -> Vec<Asked> {
         phases[1],
         Operation::Draw,
     ];
-    operations.extend(draws.map(|operation| Asked {
-        operation,
-        lengths: Lengths::RIGHT,
-    }));
+    operations.extend(draws.map(Asked::right));
     operations
 }
 
@@ -110,7 +112,13 @@ impl Met {
 
 /// The operation once more, with everything as it was before: the answer, the 64 bytes and the
 /// buffers are the same.
-fn assert_once_more(told: &str, before: &mut Desk, asked: Asked, report: &Report, after: &Desk) {
+fn assert_once_more(
+    told: &str,
+    before: &mut Desk<Processor>,
+    asked: Asked,
+    report: &Report,
+    after: &Desk<Processor>,
+) {
     assert_eq!(before.apply(asked), *report, "{told}: another answer");
     assert!(before.processor == after.processor, "{told}: other bytes");
     assert!(before.memory == after.memory, "{told}: another memory");
@@ -120,17 +128,14 @@ fn assert_once_more(told: &str, before: &mut Desk, asked: Asked, report: &Report
 /// A few operations one after the other, from any bytes.
 fn compare_one(seed: u64, met: &mut Met) {
     let mut random = Random::new(seed);
-    let mut desk = any_desk(&mut random);
-    let mut second = second_desk(&desk);
+    let library = any_desk(&mut random);
+    let second = second_desk(&library);
+    let mut pair = Pair::of(seed, library, second);
     for asked in any_operations(&mut random) {
+        let mut before = pair.library.clone();
+        let report = pair.apply(asked);
         let told = format!("seed {seed}, {asked:?}");
-        let mut before = desk.clone();
-        let report = desk.apply(asked);
-        let answer = second.apply(asked);
-        assert_eq!(report, Report::wanted(answer, &second.processor), "{told}");
-        assert!(desk.memory == second.memory, "{told}: memory");
-        assert!(desk.picture == second.picture, "{told}: picture");
-        assert_once_more(&told, &mut before, asked, &report, &desk);
+        assert_once_more(&told, &mut before, asked, &report, &pair.library);
         met.look(asked, &report);
     }
 }

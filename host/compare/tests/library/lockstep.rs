@@ -3,19 +3,17 @@
 
 use compare::amount::at_least;
 use compare::met::Met;
-use compare::trial::steps;
-
-use crate::desk::Desk;
+use compare::trial::{Trial, OPERATIONS};
 
 #[test]
 fn every_operation_is_the_second_programs() {
     let operations = at_least("BINTURAMIS_OPERATIONS", 200_000);
-    let mut desk = Desk::begin(Vec::new(), Vec::new());
     let mut met = Met::default();
-    for step in steps(operations) {
-        let answer = desk.reply(&step.record);
-        step.assert_answered(&answer);
-        met.look(&step);
+    for seed in 0..operations.div_ceil(OPERATIONS) {
+        let mut trial = Trial::new(seed);
+        for _ in 0..OPERATIONS {
+            met.look(&trial.step());
+        }
     }
     println!("{met}");
     assert!(met.operations() as u64 >= operations);

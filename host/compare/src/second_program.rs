@@ -1,0 +1,25 @@
+//! The second program as the other of the two sides.
+
+use second::{Answer, Operation, Processor};
+
+use crate::desk::{Lent, Side};
+use crate::report::Report;
+
+impl Side for Processor {
+    fn power_up() -> Processor {
+        Processor::power_up()
+    }
+
+    fn operate(&mut self, operation: Operation, lent: Lent) -> Answer {
+        match operation {
+            Operation::Write { address, value } => self.write(lent.memory, address, value),
+            Operation::Read { address } => self.read(lent.memory, address),
+            Operation::Turn { phase } => self.turn(lent.memory, phase),
+            Operation::Draw => self.draw(lent.memory, lent.rom, lent.picture),
+        }
+    }
+
+    fn report(&self, answer: Answer) -> Report {
+        Report::wanted(answer, self)
+    }
+}

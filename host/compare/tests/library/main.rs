@@ -1,0 +1,8 @@
+//! The library held to the second program.
+
+mod any_bytes;
+mod drawn;
+mod forty_columns;
+mod fresh;
+mod lockstep;
+mod partial;
