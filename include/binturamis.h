@@ -24,6 +24,12 @@
 #include <stddef.h>
 #include <stdint.h>
 
+/* The version of the library and of this header. */
+#define BINTURAMIS_VERSION_MAJOR 0u
+#define BINTURAMIS_VERSION_MINOR 2u
+#define BINTURAMIS_VERSION_PATCH 0u
+#define BINTURAMIS_VERSION "0.2.0"
+
 /* The bytes of each thing that is lent. */
 #define BINTURAMIS_PROCESSOR_BYTES 64u
 #define BINTURAMIS_MEMORY_BYTES 16384u

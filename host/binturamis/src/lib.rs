@@ -41,6 +41,9 @@ mod refusal;
 mod size;
 mod state;
 
+/// The version of this package, which is the library's.
+pub const VERSION: &str = env!("CARGO_PKG_VERSION");
+
 pub use operation::{draw, read, turn, write, Processor};
 pub use panel::Panel;
 pub use redrawn::{row_of, Redrawn};
