@@ -1,51 +1,69 @@
-# make panel   the program `panel` on the example of the rules
-# make library the archive and the header for C and Rust, in target/library
-# make rom     the demonstration ROM, target/demonstration.rom
-# make demo    a plant's page, drawn by the library: shown here, and as target/demo.png; PHASE=1 hides what flashes
-# make bench   what calls of the library cost, in instructions
-# make test    the gate: proofs, must-fail edits, programs, host tests, benchmark
-# make check   the proofs alone, over what has changed
-# make format  the layout of every file
-.PHONY: panel library rom demo bench test check format
+# Plain `make` prints the targets: each has its line behind `##`.
+.PHONY: help demo test library install bench check panel rom format kit clean
 
-panel: target/bin/panel
-	@cd host && cargo run --quiet --release --offline -p panel <../crates/panel/stdin
+help: ## these lines
+	@awk -F ':.*## ' '/^[a-z]+:.*## / { printf "make %-8s %s\n", $$1, $$2 }' Makefile
 
-target/bin/panel:
-	rt check panel
+PHASE = 0
+SNAPSHOT = cargo run --quiet --release --offline -p snapshot
 
-library:
+demo: target/library/libbinturamis.a ## a plant's page, drawn by the library: shown here, and as target/demo.png; PHASE=1 hides what flashes
+	@cd host && $(SNAPSHOT) --bin demonstration >../target/demo.accesses
+	@cd host && $(SNAPSHOT) --bin snapshot -- ../target/demo.accesses --png ../target/demo.png --phase $(PHASE)
+	@echo "target/demo.png is the whole picture, target/demo.accesses the register accesses that draw it"
+
+test: ## the gate: proofs, must-fail edits, programs, host tests, installation, benchmark, demonstration
+	./.ci/run
+
+# Another kit than the recorded one is told, and no reason to stop: what is proved with it is proved.
+NAMED_KIT = .ci/kit || echo "Going on with the kit that is here." >&2
+
+library: ## the archive and the header for C and Rust, in target/library
+	@$(NAMED_KIT)
 	rt staticlib binturamis
 	mkdir -p target/library
 	cp target/staticlib/libbinturamis.a include/binturamis.h target/library/
 	host/bridge/build target/library
 
-bench: target/library/libbinturamis.a
-	host/bench/run
-
-# Made again only where a source is newer, since making it takes longer than the benchmark.
+# Made again only where a source is newer, since making it takes longer than what asks for it.
 target/library/libbinturamis.a: include/binturamis.h $(wildcard crates/*/src/*.rt)
 	$(MAKE) library
 
-test:
-	./.ci/run
+PREFIX = /usr/local
+INSTALLED = $(DESTDIR)$(PREFIX)
 
-check:
+install: target/library/libbinturamis.a ## the archive, the header and a pkg-config file below PREFIX=/usr/local; DESTDIR goes before it
+	@case "$(PREFIX)" in /*) ;; *) echo "PREFIX is $(PREFIX), which is no absolute path" >&2; exit 1 ;; esac
+	mkdir -p "$(INSTALLED)/lib/pkgconfig" "$(INSTALLED)/include"
+	install -m 644 target/library/libbinturamis.a "$(INSTALLED)/lib/"
+	install -m 644 target/library/binturamis.h "$(INSTALLED)/include/"
+	sed "s|@PREFIX@|$(PREFIX)|; s|@VERSION@|$$(cat VERSION)|" include/binturamis.pc.in >"$(INSTALLED)/lib/pkgconfig/binturamis.pc"
+
+bench: target/library/libbinturamis.a ## what calls of the library cost, in instructions
+	host/bench/run
+
+check: ## the proofs alone, over what has changed, and every program run
+	@$(NAMED_KIT)
 	rt check
 
-format:
-	rt fmt
-	cd host && cargo fmt
+panel: target/bin/panel ## the program `panel` on the example of the rules
+	@cd host && cargo run --quiet --release --offline -p panel <../crates/panel/stdin
 
-rom:
+target/bin/panel:
+	rt check panel
+
+rom: ## the demonstration ROM, target/demonstration.rom
 	@mkdir -p target
 	@cd host && cargo run --quiet --release --offline -p rom -- ../target/demonstration.rom
 	@echo "target/demonstration.rom is written"
 
-PHASE = 0
-SNAPSHOT = cargo run --quiet --release --offline -p snapshot
+format: ## the layout of every file
+	rt fmt
+	cd host && cargo fmt
 
-demo: target/library/libbinturamis.a
-	@cd host && $(SNAPSHOT) --bin demonstration >../target/demo.accesses
-	@cd host && $(SNAPSHOT) --bin snapshot -- ../target/demo.accesses --png ../target/demo.png --phase $(PHASE)
-	@echo "target/demo.png is the whole picture, target/demo.accesses the register accesses that draw it"
+kit: ## records the kit that is here in the file KIT; then `make test` must pass
+	@kit=$$(rt version) && echo "$$kit" >KIT
+	@echo "KIT is now: $$(cat KIT)"
+
+clean: ## removes all that was made: target and host/target
+	rm -rf target host/target
