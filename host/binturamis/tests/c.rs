@@ -72,14 +72,16 @@ fn the_example_prints_what_is_expected() -> Result<(), String> {
     Ok(())
 }
 
-/// Ends with 0 if the header takes apart what it says it does: a number above, and a value of 16 bits.
+/// Ends with 0 if the header takes an answer apart as it says: the number, and a value of 16 bits.
 const TAKEN_APART: &str = r#"
 #include "binturamis.h"
 
 int main(void)
 {
     uint32_t answer = 65536u * BINTURAMIS_WRONG_PHASE + 0xABCDu;
-    return !(binturamis_number(answer) == BINTURAMIS_WRONG_PHASE && binturamis_value(answer) == 0xABCDu);
+    if (binturamis_number(answer) != BINTURAMIS_WRONG_PHASE)
+        return 1;
+    return binturamis_value(answer) != 0xABCDu;
 }
 "#;
 

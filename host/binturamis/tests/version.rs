@@ -1,4 +1,5 @@
-//! One version: the file `VERSION` at the top says it, and the header and this package are held to it.
+//! One version: the file `VERSION` at the top says it, and the header and this package are held to
+//! it.
 
 use std::fs;
 use std::path::Path;

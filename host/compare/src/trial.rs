@@ -1,4 +1,5 @@
-//! Trials: random sequences of operations from power-up, done by the library and the second program.
+//! Trials: random sequences of operations from power-up, done by the library and by the second
+//! program.
 
 use std::collections::VecDeque;
 

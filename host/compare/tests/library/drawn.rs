@@ -11,7 +11,7 @@ const ROR: u8 = 0x87;
 /// Where the marks stand among the bytes of a processor.
 const MARKS: usize = 19;
 
-/// A processor from power-up that shows the page, every row of it marked. The memory is lent as it is.
+/// A processor from power-up that shows the page, every row of it marked. The page's memory is lent.
 pub fn shown(page: &mut Page) -> Result<Processor, Refusal> {
     let mut processor = Processor::power_up();
     for (command, value) in [(PAT, page.pat), (DOR, page.dor), (ROR, page.ror)] {

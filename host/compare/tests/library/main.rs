@@ -4,5 +4,5 @@ mod any_bytes;
 mod drawn;
 mod forty_columns;
 mod fresh;
-mod lockstep;
+mod operations;
 mod partial;
