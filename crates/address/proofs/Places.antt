@@ -6,11 +6,12 @@ use mathlib.Core.Path.{_≡_}
 use mathlib.Core.Bool.{true}
 use mathlib.Core.Logic.{⊎-elim}
 use native.Mathlib.Omega.{arith}
-use Rattle.basics.proofs.Choice.{lt-or-le, eq-or-ne}
+use borrow.Author.Tests.{lt-ltb}
+use Rattle.basics.proofs.Choice.{lt-or-le, eq-or-ne, and-both}
 use Rattle.address.specs.declared.triple.Triple.{Triple}
 use Rattle.address.specs.Triples.{onPage, legalIn}
 use Rattle.address.specs.Boards.{bytesOf}
-use Rattle.address.specs.Places.{placeOf, blockOf}
+use Rattle.address.specs.Places.{placeOf, blockOf, placeAt, blockAt}
 use Rattle.address.proofs.Laws.{triple, page-column, page-row, legal-page, legal-block, place-left, place-service, place-right}
 
 -- the three ranges of a block, each with the rule of its places
@@ -92,3 +93,17 @@ place-fits n x y z p q r =
     (λ l.
     ⊎-elim (λ e. omega (arith, place-service x y z l e)) (λ n. omega (arith, place-right x y z l n)) (eq-or-ne y 0))
     (lt-or-le x 32)
+
+pub place-fits-in : (n : ℕ) (t : Triple) (p : ℕ) → p ≡ placeAt t → legalIn n t ≡ true → p < bytesOf n
+place-fits-in n t p e h = rw e (legal-place n t h)
+
+pub legal-x : (n : ℕ) (t : Triple) → legalIn n t ≡ true → t .x < 40
+legal-x n t e = page-column (t .x) (t .y) (legal-page n t e)
+
+-- on a board of d districts the blocks of a legal triple are legal
+pub legal-blocks : (d : ℕ) (t : Triple) (k : ℕ) → legalIn (4 * d) t ≡ true → legalIn (4 * d) (blockAt t k) ≡ true
+unfolding legalIn
+legal-blocks d t k e = and-both _ _ (legal-page (4 * d) t e) (lt-ltb (blockOf (t .z) k) (4 * d) (omega (arith, legal-block (4 * d) t e)))
+
+pub legal-block-at : (d : ℕ) (t u : Triple) (k : ℕ) → u ≡ blockAt t k → legalIn (4 * d) t ≡ true → legalIn (4 * d) u ≡ true
+legal-block-at d t u k e h = rw e (legal-blocks d t k h)

@@ -2,9 +2,12 @@
 -- Assumes nothing.
 use Prim.Native.Nat.{ℕ, _*_}
 
--- Z 0..15
+-- Z 0..15: four districts of four blocks
+abbrev pub boardDistricts : ℕ
+boardDistricts = 4
+
 abbrev pub boardBlocks : ℕ
-boardBlocks = 16
+boardBlocks = 4 * boardDistricts
 
 -- the bytes of so many blocks: block Z starts at 1024Z
 abbrev pub bytesOf : ℕ → ℕ

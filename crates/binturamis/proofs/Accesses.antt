@@ -9,13 +9,14 @@ use lib.Dec.{eqb}
 use lib.ListN.{length, set}
 use lib.Seq.{take-set-lt, drop-set-lt, getD-set-other}
 use borrow.Author.Tests.{eqb-true, eq-eqb, ne-eqb}
+use Rattle.address.specs.Boards.{memoryBytes}
 use Rattle.basics.specs.Bits.{bits, isSet}
 use Rattle.basics.proofs.Choice.{and-left, and-right}
 use Rattle.processor.specs.declared.state.Processor.{Processor}
-use Rattle.processor.specs.declared.answer.Answer.the-variants.{Accepted}
-use Rattle.processor.specs.States.{kept, withRegister, registerRead}
+use Rattle.command.specs.declared.answer.Answer.the-variants.{Accepted}
+use Rattle.processor.specs.States.{chip, withRegister, registerRead}
 use Rattle.processor.specs.Access.{outcome, executed, checked, written, readOut}
-use Rattle.binturamis.specs.Layouts.{packed, unpacked}
+use Rattle.packing.specs.Layouts.{packed, unpacked}
 use Rattle.binturamis.specs.Calls.{called, callOf}
 
 -- a register written in the bytes is the register written
@@ -31,15 +32,15 @@ unpacked-set bytes n v h =
       getD-set-other bytes n 18 v 0 (λ e. omega arith),
     )
 
-module _ (address : ℕ) (m : List ℕ) (plain : Bool) (test : plain ≡ (eqb (length m) 16384 && eqb (address / 8) 4)) (taken : plain ≡ true) where
-  both : (eqb (length m) 16384 && eqb (address / 8) 4) ≡ true
+module _ (address : ℕ) (m : List ℕ) (plain : Bool) (test : plain ≡ (eqb (length m) memoryBytes && eqb (address / 8) 4)) (taken : plain ≡ true) where
+  both : (eqb (length m) memoryBytes && eqb (address / 8) 4) ≡ true
   both = sym test ∙ taken
 
-  right : eqb (length m) 16384 ≡ true
-  right = and-left (eqb (length m) 16384) (eqb (address / 8) 4) both
+  right : eqb (length m) memoryBytes ≡ true
+  right = and-left (eqb (length m) memoryBytes) (eqb (address / 8) 4) both
 
   four : address / 8 ≡ 4
-  four = eqb-true (address / 8) 4 (and-right (eqb (length m) 16384) (eqb (address / 8) 4) both)
+  four = eqb-true (address / 8) 4 (and-right (eqb (length m) memoryBytes) (eqb (address / 8) 4) both)
 
   high : bits 4 4 address ≡ 2
   high = omega (arith, four)
@@ -50,22 +51,22 @@ module _ (address : ℕ) (m : List ℕ) (plain : Bool) (test : plain ≡ (eqb (l
   unasked : isSet 3 address ≡ false
   unasked = ne-eqb (address / 8 % 2) 1 (λ q. omega (arith, four))
 
-  plain-written : (v : ℕ) (p : Processor) → written address v (kept p m) ≡ outcome (kept (withRegister p (address % 8) v) m) (Accepted 0)
+  plain-written : (v : ℕ) (p : Processor) → written address v (chip p m) ≡ outcome (chip (withRegister p (address % 8) v) m) (Accepted 0)
   unfolding written checked executed
   plain-written v p = rw (right, eq-eqb _ _ high, unasked, low)
 
-  plain-read : (p : Processor) → readOut address (kept p m) ≡ outcome (kept p m) (Accepted (registerRead p (address % 8)))
+  plain-read : (p : Processor) → readOut address (chip p m) ≡ outcome (chip p m) (Accepted (registerRead p (address % 8)))
   unfolding readOut checked executed
   plain-read p = rw (right, eq-eqb _ _ high, unasked, low)
 
   -- the calls
   pub plain-write-made :
       (v : ℕ) (bytes b : List ℕ) (p : Processor) → p ≡ unpacked (set bytes (address % 8) v) → b ≡ packed p
-      → called b m 0 ≡ callOf (written address v (kept (unpacked bytes) m))
+      → called b m 0 ≡ callOf (written address v (chip (unpacked bytes) m))
   plain-write-made v bytes b p ep eb =
       rw (plain-written v (unpacked bytes), ← unpacked-set bytes (address % 8) v (omega arith), ← ep, ← eb)
 
   pub plain-read-made :
       (bytes b : List ℕ) (p : Processor) (v : ℕ) → p ≡ unpacked bytes → b ≡ packed p → v ≡ registerRead p (address % 8)
-      → called b m v ≡ callOf (readOut address (kept (unpacked bytes) m))
+      → called b m v ≡ callOf (readOut address (chip (unpacked bytes) m))
   plain-read-made bytes b p v ep eb ev = rw (plain-read (unpacked bytes), ← ep, ← eb, ← ev) (ap (called b m) (omega arith))

@@ -6,20 +6,20 @@ use mathlib.Core.List.{List}
 use Rattle.processor.specs.declared.state.Processor.{Processor}
 use Rattle.processor.specs.declared.execute.Answered.{Answered}
 use Rattle.processor.specs.declared.draw.Drawn.{Drawn}
-use Rattle.processor.specs.Answers.{numberOf, valueOf, drawNumberOf, rowsOf}
-use Rattle.processor.specs.States.{Kept, kept}
+use Rattle.command.specs.Answers.{numberOf, valueOf, drawNumberOf, rowsOf}
+use Rattle.processor.specs.States.{Chip, chip}
 use Rattle.processor.specs.Access.{Outcome, outcomeOf}
 use Rattle.processor.specs.Draws.{drawOutcomeOf, drawn}
-use Rattle.binturamis.specs.Layouts.{packed, unpacked}
+use Rattle.packing.specs.Layouts.{packed, unpacked}
 use Rattle.binturamis.specs.Calls.{word, called, callOf, drawCalled, drawCallOf}
 
 -- of an access or a phase change
 pub call-made :
-    (operation : Kept → Outcome) (bytes m : List ℕ) (p : Processor) (r : Answered) (after b : List ℕ) (w : ℕ)
-    → p ≡ unpacked bytes → outcomeOf r after ≡ operation (kept p m) → b ≡ packed (r .processor) → w ≡ word (numberOf (r .answer)) (valueOf (r .answer))
-    → called b after w ≡ callOf (operation (kept (unpacked bytes) m))
+    (operation : Chip → Outcome) (bytes m : List ℕ) (p : Processor) (r : Answered) (after b : List ℕ) (w : ℕ)
+    → p ≡ unpacked bytes → outcomeOf r after ≡ operation (chip p m) → b ≡ packed (r .processor) → w ≡ word (numberOf (r .answer)) (valueOf (r .answer))
+    → called b after w ≡ callOf (operation (chip (unpacked bytes) m))
 call-made operation bytes m p r after b w ep er eb ew =
-    rw (eb, ew) (ap callOf er ∙ ap (λ (q : Processor). callOf (operation (kept q m))) ep)
+    rw (eb, ew) (ap callOf er ∙ ap (λ (q : Processor). callOf (operation (chip q m))) ep)
 
 -- of a draw
 pub draw-made :

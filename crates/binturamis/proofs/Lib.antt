@@ -1,6 +1,3 @@
-pub mod Parts
-pub mod Layouts
-pub mod RoundTrip
 pub mod Accesses
 pub mod Calls
 pub mod Rows

@@ -9,31 +9,33 @@ use lib.ListN.{length, getD, length-set}
 use Rattle.basics.proofs.Choice.{pick-either}
 use Rattle.basics.proofs.Parts.{length-table}
 use Rattle.address.specs.declared.triple.Triple.{Triple}
-use Rattle.reading.specs.Marks.{canDraw, markedToo, storeMarks, phaseMarks}
+use Rattle.shown.specs.Refusals.{canDraw}
+use Rattle.page.specs.Marks.{allMarked, markedToo}
+use Rattle.reading.specs.Marks.{storeMarks, phaseMarks}
 use Rattle.processor.specs.declared.state.Processor.{Processor}
-use Rattle.processor.specs.States.{Kept, allMarked, powerUp, registerOf, indirectWritten}
+use Rattle.processor.specs.States.{Chip, powerUp, registerOf, indirectWritten}
 use Rattle.processor.specs.Bytes.{stored}
 use Rattle.processor.specs.Access.{Outcome, written, readOut, phased, turned}
 use Rattle.processor.specs.Draws.{DrawOutcome, drawnPage, drawn}
 use Rattle.kept.specs.Runs.{Operation, World, step, run}
-use Rattle.kept.proofs.Walk.{draw-known, KeptBy, write-keeps, read-keeps, turn-keeps, noneBarred, KeptByAll, keptOf, step-keeps, run-keeps}
-use Rattle.binturamis.specs.Layouts.{Sized}
+use Rattle.kept.proofs.Walk.{draw-known, KeptBy, write-keeps, read-keeps, turn-keeps, noneBarred, KeptByAll, chipOf, step-keeps, run-keeps}
+use Rattle.packing.specs.Layouts.{Sized}
 
 abbrev Long : List Bool → Type 0
 Long marks = length marks ≡ 25
 
-abbrev S : Kept → Type 0
+abbrev S : Chip → Type 0
 S k = Sized (k .processor)
 
 -- marks, with others set or not
-stored-sized : (t : Triple) (v : ℕ) (k : Kept) → S k → S (stored t v k)
+stored-sized : (t : Triple) (v : ℕ) (k : Chip) → S k → S (stored t v k)
 unfolding stored storeMarks markedToo
-stored-sized t v k s = (s .0, s .1, pick-either Long (canDraw _ _ _ && not (eqb _ v)) _ _ (length-table _ 25) (s .2))
+stored-sized t v k s = (s .0, s .1, pick-either Long (canDraw _ && not (eqb _ v)) _ _ (length-table _ 25) (s .2))
 
-phased-sized : (n : ℕ) (k : Kept) → S k → S (phased n k)
+phased-sized : (n : ℕ) (k : Chip) → S k → S (phased n k)
 unfolding phased phaseMarks markedToo
 phased-sized n k s =
-    pick-either S (eqb (k .processor .phase) n) k _ s (s .0, s .1, pick-either Long (canDraw _ _ _) _ _ (length-table _ 25) (s .2))
+    pick-either S (eqb (k .processor .phase) n) k _ s (s .0, s .1, pick-either Long (canDraw _) _ _ (length-table _ 25) (s .2))
 
 indirect-sized : (r : ℕ) (p : Processor) → Sized p → Sized (indirectWritten p r)
 unfolding indirectWritten
@@ -56,13 +58,13 @@ sized =
 abbrev L : Outcome → Type 0
 L o = S (o .left)
 
-pub written-sized : (address v : ℕ) (k : Kept) → S k → L (written address v k)
+pub written-sized : (address v : ℕ) (k : Chip) → S k → L (written address v k)
 written-sized address v k s = write-keeps noneBarred S sized address v k (λ x. refl) s
 
-pub read-sized : (address : ℕ) (k : Kept) → S k → L (readOut address k)
+pub read-sized : (address : ℕ) (k : Chip) → S k → L (readOut address k)
 read-sized address k s = read-keeps noneBarred S sized address k (λ x. refl) s
 
-pub turned-sized : (n : ℕ) (k : Kept) → S k → L (turned n k)
+pub turned-sized : (n : ℕ) (k : Chip) → S k → L (turned n k)
 turned-sized n k s = turn-keeps S n k s (phased-sized n k s)
 
 -- the draw
@@ -78,7 +80,7 @@ sized-in : KeptByAll (λ (w : World). Sized (w .processor))
 sized-in =
     record {
       access = λ w. sized;
-      turning = λ w n s. phased-sized n (keptOf w) s;
+      turning = λ w n s. phased-sized n (chipOf w) s;
       drawing = λ w s. drawn-sized (w .processor) (w .memory) (w .rom) (w .picture) s;
     }
 

@@ -2,10 +2,10 @@
 -- Assumes nothing.
 use Prim.Native.Nat.{ℕ, _+_, _*_}
 use mathlib.Core.List.{List}
-use Rattle.processor.specs.Answers.{numberOf, valueOf, drawNumberOf, rowsOf}
+use Rattle.command.specs.Answers.{numberOf, valueOf, drawNumberOf, rowsOf}
 use Rattle.processor.specs.Access.{Outcome}
 use Rattle.processor.specs.Draws.{DrawOutcome}
-use Rattle.binturamis.specs.Layouts.{packed}
+use Rattle.packing.specs.Layouts.{packed}
 
 -- 65,536 times the answer's number, and its value, or for a draw its rows
 abbrev pub word : ℕ → ℕ → ℕ

@@ -1,4 +1,2 @@
-pub mod Layouts
-pub mod Reports
 pub mod Calls
 pub mod Runs

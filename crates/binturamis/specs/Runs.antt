@@ -2,38 +2,38 @@
 -- Assumes nothing.
 use mathlib.Core.List.{List, [], _∷_}
 use Prim.Native.Nat.{ℕ}
-use Rattle.processor.specs.States.{kept}
+use Rattle.processor.specs.States.{chip}
 use Rattle.processor.specs.Access.{written, readOut, turned}
 use Rattle.processor.specs.Draws.{drawn}
 use Rattle.kept.specs.Runs.{Operation, write, read, turn, draw, World}
-use Rattle.binturamis.specs.Layouts.{packed, unpacked}
+use Rattle.packing.specs.Layouts.{packed, unpacked}
 use Rattle.binturamis.specs.Calls.{Called, callOf, DrawCalled, drawCallOf}
 
 -- what a caller keeps
-pub record Board : Type 0 where
+pub record Caller : Type 0 where
   pub bytes : List ℕ
   pub memory : List ℕ
   pub rom : List ℕ
   pub picture : List ℕ
 
 -- with a processor packed
-abbrev pub boardOf : World → Board
-boardOf w = record { bytes = packed (w .processor); memory = w .memory; rom = w .rom; picture = w .picture }
+abbrev pub callerOf : World → Caller
+callerOf w = record { bytes = packed (w .processor); memory = w .memory; rom = w .rom; picture = w .picture }
 
 -- what an access or a phase change leaves
-abbrev pub accessed : Called → Board → Board
+abbrev pub accessed : Called → Caller → Caller
 accessed c b = record { bytes = c .bytes; memory = c .memory; rom = b .rom; picture = b .picture }
 
 -- what a draw leaves
-abbrev pub redone : DrawCalled → Board → Board
+abbrev pub redone : DrawCalled → Caller → Caller
 redone c b = record { bytes = c .bytes; memory = b .memory; rom = b .rom; picture = c .picture }
 
-abbrev pub call : Operation → Board → Board
-call (write address v) b = accessed (callOf (written address v (kept (unpacked (b .bytes)) (b .memory)))) b
-call (read address) b = accessed (callOf (readOut address (kept (unpacked (b .bytes)) (b .memory)))) b
-call (turn n) b = accessed (callOf (turned n (kept (unpacked (b .bytes)) (b .memory)))) b
+abbrev pub call : Operation → Caller → Caller
+call (write address v) b = accessed (callOf (written address v (chip (unpacked (b .bytes)) (b .memory)))) b
+call (read address) b = accessed (callOf (readOut address (chip (unpacked (b .bytes)) (b .memory)))) b
+call (turn n) b = accessed (callOf (turned n (chip (unpacked (b .bytes)) (b .memory)))) b
 call draw b = redone (drawCallOf (drawn (unpacked (b .bytes)) (b .memory) (b .rom) (b .picture))) b
 
-abbrev pub calls : List Operation → Board → Board
+abbrev pub calls : List Operation → Caller → Caller
 calls [] b = b
 calls (o ∷ os) b = calls os (call o b)

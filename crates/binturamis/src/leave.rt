@@ -1,12 +1,12 @@
 // What an operation leaves, handed to the caller: the processor in its 64 bytes, and the answer as one number.
 ghost use mathlib.Core.Path.{_≡_};
 ghost use Prim.Native.Nat.{_≤_};
-ghost use Rattle.processor.specs.Answers.{numberOf, valueOf, drawNumberOf, rowsOf};
-ghost use Rattle.binturamis.specs.Layouts.{packed};
+ghost use Rattle.command.specs.Answers.{numberOf, valueOf, drawNumberOf, rowsOf};
+ghost use Rattle.packing.specs.Layouts.{packed};
 ghost use Rattle.binturamis.specs.Calls.{word};
-use crate::layout::packed;
 use crate::word::draw_word;
 use crate::word::word;
+use packing::layout::packed;
 use processor::draw::Drawn;
 use processor::execute::Answered;
 

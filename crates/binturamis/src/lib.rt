@@ -1,27 +1,24 @@
 // The C interface: the processor's operations on 64 bytes that the caller keeps. Each unpacks the bytes, does the operation and packs
 // what it leaves, so that any 64 bytes get an answer; those of a power-up or of an earlier call mean the processor that it left.
 ghost use mathlib.Core.Path.{_≡_};
-ghost use Rattle.processor.specs.States.{kept, powerUp};
+ghost use Rattle.processor.specs.States.{chip, powerUp};
 ghost use Rattle.processor.specs.Access.{written, readOut, turned};
 ghost use Rattle.processor.specs.Draws.{drawn};
-ghost use Rattle.binturamis.specs.Layouts.{packed, unpacked};
-ghost use Rattle.binturamis.specs.Reports.{reported};
+ghost use Rattle.packing.specs.Layouts.{packed, unpacked};
+ghost use Rattle.packing.specs.Reports.{reported};
 ghost use Rattle.binturamis.specs.Calls.{called, callOf, drawCalled, drawCallOf};
 
 mod access;
-mod layout;
 mod leave;
-mod part;
-mod report;
 mod word;
 
 use access::is_plain;
-use layout::packed;
-use layout::unpacked;
 use leave::leave;
 use leave::leave_drawn;
+use packing::layout::packed;
+use packing::layout::unpacked;
+use packing::report::reported;
 use processor::state::Processor;
-use report::reported;
 
 // Power-up, whatever the bytes held.
 #[no_mangle]
@@ -39,7 +36,7 @@ pub extern "C" fn binturamis_write(
     address: u8,
     value: u8,
 ) -> u32
-    ensures { λ r. ⌜ called (now (p .exit)) (now (memory .exit)) r ≡ callOf (written address value (kept (unpacked (now (p .entry))) (now (memory .entry)))) ⌝ }
+    ensures { λ r. ⌜ called (now (p .exit)) (now (memory .exit)) r ≡ callOf (written address value (chip (unpacked (now (p .entry))) (now (memory .entry)))) ⌝ }
 {
     if is_plain(memory.len(), address) {
         let n = (address % 8) as usize;
@@ -54,7 +51,7 @@ pub extern "C" fn binturamis_write(
 // A register is read; then the command runs, if the address asks for it, and may store.
 #[no_mangle]
 pub extern "C" fn binturamis_read(p: &mut [u8; 64], memory: &mut [u8], address: u8) -> u32
-    ensures { λ r. ⌜ called (now (p .exit)) (now (memory .exit)) r ≡ callOf (readOut address (kept (unpacked (now (p .entry))) (now (memory .entry)))) ⌝ }
+    ensures { λ r. ⌜ called (now (p .exit)) (now (memory .exit)) r ≡ callOf (readOut address (chip (unpacked (now (p .entry))) (now (memory .entry)))) ⌝ }
 {
     let before = unpacked(*p);
     if is_plain(memory.len(), address) {
@@ -68,7 +65,7 @@ pub extern "C" fn binturamis_read(p: &mut [u8; 64], memory: &mut [u8], address: 
 // The phase change.
 #[no_mangle]
 pub extern "C" fn binturamis_turn(p: &mut [u8; 64], memory: &[u8], phase: u8) -> u32
-    ensures { λ r. ⌜ called (now (p .exit)) (now (memory .entry)) r ≡ callOf (turned phase (kept (unpacked (now (p .entry))) (now (memory .entry)))) ⌝ }
+    ensures { λ r. ⌜ called (now (p .exit)) (now (memory .entry)) r ≡ callOf (turned phase (chip (unpacked (now (p .entry))) (now (memory .entry)))) ⌝ }
 {
     let answered = unpacked(*p).turn(memory, phase);
     leave(p, answered)

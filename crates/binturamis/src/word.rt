@@ -1,10 +1,10 @@
 // An answer as one number.
 ghost use mathlib.Core.Path.{_≡_};
 ghost use Prim.Native.Nat.{_≤_};
-ghost use Rattle.processor.specs.Answers.{numberOf, valueOf, drawNumberOf, rowsOf};
+ghost use Rattle.command.specs.Answers.{numberOf, valueOf, drawNumberOf, rowsOf};
 ghost use Rattle.binturamis.specs.Calls.{word};
-use processor::answer::Answer;
-use processor::answer::Drawing;
+use command::answer::Answer;
+use command::answer::Drawing;
 
 pub fn word(answer: Answer) -> u32
     ensures { λ r. ⌜ r ≡ word (numberOf answer) (valueOf answer) ⌝ }

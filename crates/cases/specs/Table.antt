@@ -13,6 +13,7 @@ use Rattle.address.specs.Rows.{rowY}
 use Rattle.address.specs.Slices.{slicePlaceOf}
 use Rattle.address.specs.declared.slice.SlicePlace.{SlicePlace}
 use Rattle.address.specs.declared.slice.SlicePlace.the-variants.{At, NoByte}
+use Rattle.shown.specs.declared.Shown.{Shown}
 use Rattle.colour.specs.Colours.{nibbleOf}
 use Rattle.colour.specs.Ranks.{colourOfRank, hasRank, rankOf}
 use Rattle.cell.specs.Cells.{cellOf, bichromeOf, quadrichromeOf, setOf, resolutionOf}
@@ -44,16 +45,20 @@ placed NoByte = []
 slice : ℕ → ℕ → ℕ → List ℕ
 slice c z nt = placed (slicePlaceOf c nt z)
 
--- the bytes of slice 0, whose byte is s, of the cell of three code bytes, with PAT and the phase 0
+-- every register and the phase 0
+allZero : Shown
+allZero = record { tgs = 0; mat = 0; pat = 0; dor = 0; ror = 0; phase = 0 }
+
+-- the bytes of slice 0, whose byte is s, of the cell of three code bytes
 line : ℕ → ℕ → ℕ → ℕ → List ℕ
-line c b a s = cellLine (cellOf c b a) 0 0 false 0 s
+line c b a s = cellLine (cellOf c b a) allZero false 0 s
 
 -- the colours of some ranks
 ranks : ℕ → List ℕ → List ℕ
 ranks palette = map (λ r. nibbleOf (colourOfRank palette r))
 
-pub table : List Case
-table =
+pub twelve : List Case
+twelve =
     case (place 39 0 0) (39 ∷ [])
     ∷ case (place 0 8 0) (256 ∷ [])
     ∷ case (place 32 8 0) (64 ∷ [])
@@ -69,6 +74,6 @@ table =
     ∷ []
 
 -- every case holds of the definitions that the contracts cite
-pub cases : map (λ c. c .given) table ≡ map (λ c. c .wanted) table
-unfolding table case place pointer placed slice line ranks placeOf legalY slicePlaceOf rowY colourOfRank lastBelow hasRank rankOf countBelow joined cellLine cellOf bichromeOf quadrichromeOf setOf resolutionOf concealed flashed inverted inked sliceOfTwenty
+pub cases : map (λ c. c .given) twelve ≡ map (λ c. c .wanted) twelve
+unfolding twelve case place pointer placed slice allZero line ranks placeOf legalY slicePlaceOf rowY colourOfRank lastBelow hasRank rankOf countBelow joined cellLine cellOf bichromeOf quadrichromeOf setOf resolutionOf concealed flashed inverted inked sliceOfTwenty
 cases = refl

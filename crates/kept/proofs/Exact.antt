@@ -12,28 +12,28 @@ use Rattle.basics.specs.Choice.{pick}
 use Rattle.address.specs.Triples.{legal}
 use Rattle.address.specs.declared.triple.Triple.{Triple}
 use Rattle.picture.specs.Redraws.{isMarked}
-use Rattle.processor.specs.declared.command.Command.{Command}
-use Rattle.processor.specs.declared.command.Command.the-variants.{Nop, Ind, Krf, Oct, NotListed}
+use Rattle.command.specs.declared.Command.{Command}
+use Rattle.command.specs.declared.Command.the-variants.{Nop, Ind, Krf, Oct, NotListed}
 use Rattle.processor.specs.declared.state.Processor.{Processor}
-use Rattle.processor.specs.Answers.{drawNumberOf}
-use Rattle.processor.specs.States.{Kept, kept, registerOf, cleared}
+use Rattle.command.specs.Answers.{drawNumberOf}
+use Rattle.processor.specs.States.{Chip, chip, registerOf, cleared}
 use Rattle.processor.specs.Pointers.{pointerOf}
-use Rattle.processor.specs.Bytes.{blockAt, stored, octet, codeStored, code}
-use Rattle.processor.specs.Access.{Outcome, indirect}
+use Rattle.address.specs.Places.{blockAt}
+use Rattle.processor.specs.Bytes.{stored, oct, codeStored, krf}
+use Rattle.processor.specs.Access.{isUnlisted, isAstray, effect, Outcome, indirect}
 use Rattle.processor.specs.Draws.{DrawOutcome, drawnPage}
-use Rattle.kept.specs.Orders.{isUnlisted, isAstray}
 use Rattle.kept.specs.Quiet.{isMarker}
 use Rattle.kept.specs.Rules.{storeRule, codeRule, commandRule, accessRule, marksRow, clears}
 use Rattle.kept.specs.Runs.{Operation, write, read, turn, draw, World, step}
-use Rattle.kept.proofs.Marks.{store-marks-exact, indirect-marks-exact, phase-marks-exact, draw-marks-exact, unmarked, code-marks, octet-marks}
-use Rattle.kept.proofs.Walk.{Ends, effect, write-known, read-known, turn-known, draw-known, effect-keeps, commandIn, registered, keptOf}
+use Rattle.kept.proofs.Marks.{store-marks-exact, indirect-marks-exact, phase-marks-exact, draw-marks-exact, unmarked, krf-marks, oct-marks}
+use Rattle.kept.proofs.Walk.{Ends, write-known, read-known, turn-known, draw-known, effect-keeps, commandIn, registered, chipOf}
 
 module _ (r : ℕ) (l : r < 25) where
-  abbrev M : Kept → Bool
+  abbrev M : Chip → Bool
   M k = isMarked (k .processor .marks) r
 
   -- KRF's three stores
-  three : (t : Triple) (k : Kept) → M (codeStored t k) ≡ (M k || codeRule t k r)
+  three : (t : Triple) (k : Chip) → M (codeStored t k) ≡ (M k || codeRule t k r)
   unfolding codeStored
   three t k =
       let p = k .processor in
@@ -53,22 +53,22 @@ module _ (r : ℕ) (l : r < 25) where
   at a b e = ap (λ (q : List Bool). isMarked q r) e
 
   -- what a command leaves, refused or not
-  abbrev settled : Command → Kept → Kept
+  abbrev settled : Command → Chip → Chip
   settled c k = pick (isUnlisted c || isAstray c (k .processor)) k (effect c k)
 
   -- where it is no marker, the row is marked as it was
-  unruled : (c : Command) (k : Kept) → isMarker c ≡ false → M (settled c k) ≡ (M k || false)
+  unruled : (c : Command) (k : Chip) → isMarker c ≡ false → M (settled c k) ≡ (M k || false)
   unruled c k n =
-      pick-either (λ (j : Kept). M j ≡ M k) (isUnlisted c || isAstray c (k .processor)) k (effect c k) refl
+      pick-either (λ (j : Chip). M j ≡ M k) (isUnlisted c || isAstray c (k .processor)) k (effect c k) refl
       (at _ _ (effect-keeps isMarker _ (unmarked _) c n k refl))
       ∙ sym (or-false (M k))
 
-  pointed : (b : Bool) (k done : Kept) (rule : Bool) → M done ≡ (M k || rule) → M (pick (not b) k done) ≡ (M k || (b && rule))
+  pointed : (b : Bool) (k done : Chip) (rule : Bool) → M done ≡ (M k || rule) → M (pick (not b) k done) ≡ (M k || (b && rule))
   pointed true k done rule e = e
   pointed false k done rule e = sym (or-false (M k))
 
   -- a command marks by its rule
-  ruled : (c : Command) (k : Kept) → M (settled c k) ≡ (M k || commandRule c k r)
+  ruled : (c : Command) (k : Chip) → M (settled c k) ≡ (M k || commandRule c k r)
   unfolding indirect
   ruled Nop k = unruled Nop k refl
   ruled (Ind n true) k = unruled (Ind n true) k refl
@@ -76,22 +76,22 @@ module _ (r : ℕ) (l : r < 25) where
   ruled (Krf true increments) k = unruled (Krf true increments) k refl
   ruled (Krf false increments) k =
       let t = pointerOf false (k .processor) in
-      let j = kept (cleared (k .processor)) (k .memory) in
-      pointed (legal t) k (code false increments k) (codeRule t j r) (at _ _ (code-marks increments k) ∙ three t j)
+      let j = chip (cleared (k .processor)) (k .memory) in
+      pointed (legal t) k (krf false increments k) (codeRule t j r) (at _ _ (krf-marks increments k) ∙ three t j)
   ruled (Oct true auxiliary increments) k = unruled (Oct true auxiliary increments) k refl
   ruled (Oct false auxiliary increments) k =
       let t = pointerOf auxiliary (k .processor) in
-      let j = kept (cleared (k .processor)) (k .memory) in
+      let j = chip (cleared (k .processor)) (k .memory) in
       let v = registerOf (k .processor) 1 in
-      pointed (legal t) k (octet false auxiliary increments k) (storeRule t v j r) (at _ _ (octet-marks auxiliary increments k) ∙ store-marks-exact t v j r l)
+      pointed (legal t) k (oct false auxiliary increments k) (storeRule t v j r) (at _ _ (oct-marks auxiliary increments k) ∙ store-marks-exact t v j r l)
   ruled NotListed k = unruled NotListed k refl
 
   -- the register access itself marks nothing
   access-exact :
-      (address v : ℕ) (k : Kept) (p : Processor) → k .processor .marks ≡ p .marks →
-      Ends address v k p (λ (o : Outcome). M (o .left) ≡ ((isMarked (p .marks) r && true) || accessRule address (kept p (k .memory)) r))
+      (address v : ℕ) (k : Chip) (p : Processor) → k .processor .marks ≡ p .marks →
+      Ends address v k p (λ (o : Outcome). M (o .left) ≡ ((isMarked (p .marks) r && true) || accessRule address (chip p (k .memory)) r))
   access-exact address v k p e =
-      let j = kept p (k .memory) in
+      let j = chip p (k .memory) in
       let command = ruled (commandIn p) j in
       record {
         wrong-memory = λ m. rw (m, and-true, or-false) (at _ _ e);
@@ -106,10 +106,10 @@ module _ (r : ℕ) (l : r < 25) where
       (o : Operation) (w : World) →
       isMarked (step o w .processor .marks) r ≡ ((isMarked (w .processor .marks) r && not (clears o w)) || marksRow o w r)
   unfolding drawnPage
-  marks-exact (write address v) w = write-known _ address v (keptOf w) (access-exact address 0 (keptOf w) (registered address v (keptOf w)) refl)
-  marks-exact (read address) w = read-known _ address (keptOf w) (access-exact address _ (keptOf w) (w .processor) refl)
+  marks-exact (write address v) w = write-known _ address v (chipOf w) (access-exact address 0 (chipOf w) (registered address v (chipOf w)) refl)
+  marks-exact (read address) w = read-known _ address (chipOf w) (access-exact address _ (chipOf w) (w .processor) refl)
   marks-exact (turn n) w =
-      let k = keptOf w in
+      let k = chipOf w in
       turn-known (λ (o : Outcome). M (o .left) ≡ ((M k && true) || marksRow (turn n) w r)) n k
       (λ m. rw (m, and-true, or-false))
       (λ m e. rw (m, e, and-true, or-false))

@@ -11,16 +11,18 @@ use Rattle.basics.specs.Bits.{bits, isSet}
 use Rattle.basics.specs.Choice.{pick}
 use Rattle.basics.proofs.Parts.{table-at}
 use Rattle.address.specs.declared.triple.Triple.{Triple}
-use Rattle.picture.specs.Redraws.{isMarked}
+use Rattle.page.specs.Marks.{isMarked, markedToo, allMarked}
 use Rattle.reading.specs.Lists.{onList}
-use Rattle.reading.specs.Marks.{canDraw, markedToo, storeMarks, flashIn, phaseMarks}
+use Rattle.reading.specs.Marks.{storeMarks, flashIn, phaseMarks}
+use Rattle.shown.specs.Refusals.{canDraw}
 use Rattle.processor.specs.declared.state.Processor.{Processor}
-use Rattle.processor.specs.States.{Kept, kept, allMarked, registerOf, tgsOf, patOf, dorOf, rorOf, indirectWritten, withPhase, withRegister, cleared}
-use Rattle.processor.specs.declared.command.Command.{Command}
-use Rattle.processor.specs.declared.command.Command.the-variants.{Nop, Ind, Krf, Oct, NotListed}
-use Rattle.processor.specs.Commands.{commandOf}
+use Rattle.processor.specs.States.{Chip, chip, registerOf, indirectWritten, withPhase, withRegister, cleared, shownOf}
+use Rattle.command.specs.declared.Command.{Command}
+use Rattle.command.specs.declared.Command.the-variants.{Nop, Ind, Krf, Oct, NotListed}
+use Rattle.command.specs.Commands.{commandOf}
 use Rattle.processor.specs.Pointers.{pointerOf}
-use Rattle.processor.specs.Bytes.{placeAt, loaded, stored, octet, codeStored, code}
+use Rattle.address.specs.Places.{placeAt, loaded}
+use Rattle.processor.specs.Bytes.{stored, oct, codeStored, krf}
 use Rattle.processor.specs.Access.{written, readOut, phased}
 use Rattle.processor.specs.Draws.{drawnPage}
 use Rattle.kept.specs.Quiet.{isStore, isMarker}
@@ -39,15 +41,15 @@ all false marks r l = sym (or-false (isMarked marks r))
 
 -- a store: a draw would get neither 7 nor 8, the byte changes, and the row's list, taken just before, holds it
 pub store-marks-exact :
-    (t : Triple) (v : ℕ) (k : Kept) (r : ℕ) → r < 25 →
+    (t : Triple) (v : ℕ) (k : Chip) (r : ℕ) → r < 25 →
     let p = k .processor in
     isMarked (stored t v k .processor .marks) r
     ≡ (isMarked (p .marks) r
-    || ((canDraw (tgsOf p) (patOf p) (rorOf p) && not (eqb (loaded t (k .memory)) v)) && onList (rorOf p) (dorOf p) (k .memory) (placeAt t) r))
+    || ((canDraw (shownOf p) && not (eqb (loaded t (k .memory)) v)) && onList (shownOf p) (k .memory) (placeAt t) r))
 unfolding stored storeMarks
 store-marks-exact t v k r l =
     let p = k .processor in
-    too (canDraw (tgsOf p) (patOf p) (rorOf p) && not (eqb (loaded t (k .memory)) v)) (onList (rorOf p) (dorOf p) (k .memory) (placeAt t)) (p .marks) r l
+    too (canDraw (shownOf p) && not (eqb (loaded t (k .memory)) v)) (onList (shownOf p) (k .memory) (placeAt t)) (p .marks) r l
 
 -- IND: a changed value in any register but MAT
 pub indirect-marks-exact :
@@ -57,22 +59,22 @@ unfolding indirectWritten
 indirect-marks-exact p n r l = all (not (eqb (getD (p .indirect) n 0) (registerOf p 1)) && not (eqb n 2)) (p .marks) r l
 
 turns :
-    (same can : Bool) (f : ℕ → Bool) (n : ℕ) (k : Kept) (r : ℕ) → r < 25 →
-    isMarked (pick same k (kept (withPhase (k .processor) n (pick can (markedToo f (k .processor .marks)) (k .processor .marks))) (k .memory)) .processor .marks) r
+    (same can : Bool) (f : ℕ → Bool) (n : ℕ) (k : Chip) (r : ℕ) → r < 25 →
+    isMarked (pick same k (chip (withPhase (k .processor) n (pick can (markedToo f (k .processor .marks)) (k .processor .marks))) (k .memory)) .processor .marks) r
     ≡ (isMarked (k .processor .marks) r || (not same && (can && f r)))
 turns true can f n k r l = sym (or-false (isMarked (k .processor .marks) r))
 turns false can f n k r l = too can f (k .processor .marks) r l
 
 -- a phase change: the phase changes, a draw would get neither 7 nor 8, and the row has a bichrome cell whose A3 is set
 pub phase-marks-exact :
-    (n : ℕ) (k : Kept) (r : ℕ) → r < 25 →
+    (n : ℕ) (k : Chip) (r : ℕ) → r < 25 →
     let p = k .processor in
     isMarked (phased n k .processor .marks) r
-    ≡ (isMarked (p .marks) r || (not (eqb (p .phase) n) && (canDraw (tgsOf p) (patOf p) (rorOf p) && flashIn (rorOf p) (k .memory) r)))
+    ≡ (isMarked (p .marks) r || (not (eqb (p .phase) n) && (canDraw (shownOf p) && flashIn (shownOf p) (k .memory) r)))
 unfolding phased phaseMarks
 phase-marks-exact n k r l =
     let p = k .processor in
-    turns (eqb (p .phase) n) (canDraw (tgsOf p) (patOf p) (rorOf p)) (flashIn (rorOf p) (k .memory)) n k r l
+    turns (eqb (p .phase) n) (canDraw (shownOf p)) (flashIn (shownOf p) (k .memory)) n k r l
 
 -- an accepted draw clears them
 pub draw-marks-exact :
@@ -90,7 +92,7 @@ store-marks (Oct reads auxiliary increments) e = e
 store-marks NotListed e = e
 
 -- a command that marks nothing keeps the marks
-pub unmarked : (l : List Bool) → KeptBy isMarker (λ (k : Kept). k .processor .marks ≡ l)
+pub unmarked : (l : List Bool) → KeptBy isMarker (λ (k : Chip). k .processor .marks ≡ l)
 unmarked l =
     record {
       register = λ k n v e. e;
@@ -100,33 +102,33 @@ unmarked l =
     }
 
 -- KRF marks by its three stores and OCT by its one, each by the lists just before it; the forms that read mark nothing
-pub code-marks :
-    (increments : Bool) (k : Kept) →
-    code false increments k .processor .marks ≡ codeStored (pointerOf false (k .processor)) (kept (cleared (k .processor)) (k .memory)) .processor .marks
-unfolding code
-code-marks increments k = asked-keeps isMarker _ (unmarked _) increments false (codeStored _ _) refl
+pub krf-marks :
+    (increments : Bool) (k : Chip) →
+    krf false increments k .processor .marks ≡ codeStored (pointerOf false (k .processor)) (chip (cleared (k .processor)) (k .memory)) .processor .marks
+unfolding krf
+krf-marks increments k = asked-keeps isMarker _ (unmarked _) increments false (codeStored _ _) refl
 
-pub code-read-marks : (increments : Bool) (k : Kept) → code true increments k .processor .marks ≡ k .processor .marks
-code-read-marks increments k = effect-keeps isMarker _ (unmarked _) (Krf true increments) refl k refl
+pub krf-read-marks : (increments : Bool) (k : Chip) → krf true increments k .processor .marks ≡ k .processor .marks
+krf-read-marks increments k = effect-keeps isMarker _ (unmarked _) (Krf true increments) refl k refl
 
-pub octet-marks :
-    (auxiliary increments : Bool) (k : Kept) →
-    octet false auxiliary increments k .processor .marks
-    ≡ stored (pointerOf auxiliary (k .processor)) (registerOf (k .processor) 1) (kept (cleared (k .processor)) (k .memory)) .processor .marks
-unfolding octet
-octet-marks auxiliary increments k = asked-keeps isMarker _ (unmarked _) increments auxiliary (stored _ _ _) refl
+pub oct-marks :
+    (auxiliary increments : Bool) (k : Chip) →
+    oct false auxiliary increments k .processor .marks
+    ≡ stored (pointerOf auxiliary (k .processor)) (registerOf (k .processor) 1) (chip (cleared (k .processor)) (k .memory)) .processor .marks
+unfolding oct
+oct-marks auxiliary increments k = asked-keeps isMarker _ (unmarked _) increments auxiliary (stored _ _ _) refl
 
-pub octet-read-marks : (auxiliary increments : Bool) (k : Kept) → octet true auxiliary increments k .processor .marks ≡ k .processor .marks
-octet-read-marks auxiliary increments k = effect-keeps isMarker _ (unmarked _) (Oct true auxiliary increments) refl k refl
+pub oct-read-marks : (auxiliary increments : Bool) (k : Chip) → oct true auxiliary increments k .processor .marks ≡ k .processor .marks
+oct-read-marks auxiliary increments k = effect-keeps isMarker _ (unmarked _) (Oct true auxiliary increments) refl k refl
 
 -- every other access marks nothing
 pub write-unmarked :
-    (address v : ℕ) (k : Kept) →
+    (address v : ℕ) (k : Chip) →
     let p = withRegister (k .processor) (bits 0 3 address) v in
     (isSet 3 address && isMarker (commandOf (registerOf p 0))) ≡ false → written address v k .left .processor .marks ≡ k .processor .marks
 write-unmarked address v k n = write-keeps isMarker _ (unmarked (k .processor .marks)) address v k (and-none (isSet 3 address) _ n) refl
 
 pub read-unmarked :
-    (address : ℕ) (k : Kept) → (isSet 3 address && isMarker (commandOf (registerOf (k .processor) 0))) ≡ false →
+    (address : ℕ) (k : Chip) → (isSet 3 address && isMarker (commandOf (registerOf (k .processor) 0))) ≡ false →
     readOut address k .left .processor .marks ≡ k .processor .marks
 read-unmarked address k n = read-keeps isMarker _ (unmarked (k .processor .marks)) address k (and-none (isSet 3 address) _ n) refl

@@ -5,8 +5,8 @@ use mathlib.Core.Path.{_≡_, sym}
 use mathlib.Core.List.{List}
 use Rattle.basics.specs.Bits.{bits}
 use Rattle.processor.specs.declared.state.Processor.{Processor}
-use Rattle.processor.specs.Answers.{numberOf, drawNumberOf}
-use Rattle.processor.specs.States.{Kept, withRegister}
+use Rattle.command.specs.Answers.{numberOf, drawNumberOf}
+use Rattle.processor.specs.States.{Chip, withRegister}
 use Rattle.processor.specs.Access.{Outcome, written, readOut, turned}
 use Rattle.processor.specs.Draws.{DrawOutcome, drawnPage, drawn}
 use Rattle.kept.specs.Orders.{firstOf, accessOrder, drawOrder, phaseOrder}
@@ -20,7 +20,7 @@ abbrev said-of : DrawOutcome → ℕ
 said-of o = drawNumberOf (o .answer)
 
 access-number :
-    (address v : ℕ) (k : Kept) (p : Processor) → Ends address v k p (λ (o : Outcome). said o ≡ firstOf (accessOrder address p (k .memory)))
+    (address v : ℕ) (k : Chip) (p : Processor) → Ends address v k p (λ (o : Outcome). said o ≡ firstOf (accessOrder address p (k .memory)))
 access-number address v k p =
     record {
       wrong-memory = λ m. rw m;
@@ -33,16 +33,16 @@ access-number address v k p =
 
 -- a write: p is the state after the register has been written
 pub write-number :
-    (address v : ℕ) (k : Kept) →
+    (address v : ℕ) (k : Chip) →
     said (written address v k) ≡ firstOf (accessOrder address (withRegister (k .processor) (bits 0 3 address) v) (k .memory))
 write-number address v k = write-known _ address v k (access-number address 0 k _)
 
 -- a read
-pub read-number : (address : ℕ) (k : Kept) → said (readOut address k) ≡ firstOf (accessOrder address (k .processor) (k .memory))
+pub read-number : (address : ℕ) (k : Chip) → said (readOut address k) ≡ firstOf (accessOrder address (k .processor) (k .memory))
 read-number address k = read-known _ address k (access-number address _ k (k .processor))
 
 -- a phase change
-pub turn-number : (n : ℕ) (k : Kept) → said (turned n k) ≡ firstOf (phaseOrder n (k .memory))
+pub turn-number : (n : ℕ) (k : Chip) → said (turned n k) ≡ firstOf (phaseOrder n (k .memory))
 turn-number n k = turn-known (λ (o : Outcome). said o ≡ firstOf (phaseOrder n (k .memory))) n k (λ m. rw m) (λ m e. rw (m, e)) (λ m e. rw (m, e))
 
 -- a draw

@@ -8,33 +8,33 @@ use mathlib.Core.Logic.{_≢_}
 use native.Mathlib.Omega.{arith}
 use Rattle.basics.specs.Bits.{bits}
 use Rattle.processor.specs.declared.state.Processor.{Processor}
-use Rattle.processor.specs.declared.answer.Answer.{Answer}
-use Rattle.processor.specs.declared.answer.Answer.the-variants as answer
-use Rattle.processor.specs.Answers.{numberOf, drawNumberOf}
-use Rattle.processor.specs.States.{Kept, kept, withRegister}
+use Rattle.command.specs.declared.answer.Answer.{Answer}
+use Rattle.command.specs.declared.answer.Answer.the-variants as answer
+use Rattle.command.specs.Answers.{numberOf, drawNumberOf}
+use Rattle.processor.specs.States.{Chip, chip, withRegister}
 use Rattle.processor.specs.Access.{Outcome, outcome, written, readOut, turned}
 use Rattle.processor.specs.Draws.{DrawOutcome, drawnPage, drawn}
 use Rattle.kept.proofs.Walk.{Ends, write-known, read-known, turn-known, draw-known}
 
 -- after 1 and 2 what there was, k; after 3 and 4 what the register access left, j
-abbrev Leaves : Kept → Kept → Outcome → Type 0
+abbrev Leaves : Chip → Chip → Outcome → Type 0
 Leaves k j o =
     (numberOf (o .answer) ≡ 1 → o .left ≡ k) × (numberOf (o .answer) ≡ 2 → o .left ≡ k)
     × (numberOf (o .answer) ≡ 3 → o .left ≡ j) × (numberOf (o .answer) ≡ 4 → o .left ≡ j)
 
-module _ (k j : Kept) where
+module _ (k j : Chip) where
   untouched : (a : Answer) → numberOf a < 3 → Leaves k j (outcome k a)
   untouched a l = ((λ e. refl), (λ e. refl), (λ e. absurd (omega arith)), (λ e. absurd (omega arith)))
 
   registered : (a : Answer) → 2 < numberOf a → Leaves k j (outcome j a)
   registered a l = ((λ e. absurd (omega arith)), (λ e. absurd (omega arith)), (λ e. refl), (λ e. refl))
 
-  served : (done : Kept) (v : ℕ) → Leaves k j (outcome done (answer.Accepted v))
+  served : (done : Chip) (v : ℕ) → Leaves k j (outcome done (answer.Accepted v))
   served done v = ((λ e. absurd (omega arith)), (λ e. absurd (omega arith)), (λ e. absurd (omega arith)), (λ e. absurd (omega arith)))
 
-access-leaves : (address v : ℕ) (k : Kept) (p : Processor) → Ends address v k p (Leaves k (kept p (k .memory)))
+access-leaves : (address v : ℕ) (k : Chip) (p : Processor) → Ends address v k p (Leaves k (chip p (k .memory)))
 access-leaves address v k p =
-    let j = kept p (k .memory) in
+    let j = chip p (k .memory) in
     record {
       wrong-memory = λ m. untouched k j answer.WrongMemory (omega arith);
       wrong-address = λ m a. untouched k j answer.WrongAddress (omega arith);
@@ -46,18 +46,18 @@ access-leaves address v k p =
 
 -- a write
 pub write-leaves :
-    (address v : ℕ) (k : Kept) → Leaves k (kept (withRegister (k .processor) (bits 0 3 address) v) (k .memory)) (written address v k)
+    (address v : ℕ) (k : Chip) → Leaves k (chip (withRegister (k .processor) (bits 0 3 address) v) (k .memory)) (written address v k)
 write-leaves address v k = write-known _ address v k (access-leaves address 0 k _)
 
 -- a read changes no register by itself
-pub read-leaves : (address : ℕ) (k : Kept) → Leaves k k (readOut address k)
+pub read-leaves : (address : ℕ) (k : Chip) → Leaves k k (readOut address k)
 read-leaves address k = read-known (Leaves k k) address k (access-leaves address _ k (k .processor))
 
 -- a phase change
-abbrev Unturned : Kept → Outcome → Type 0
+abbrev Unturned : Chip → Outcome → Type 0
 Unturned k o = (numberOf (o .answer) ≡ 1 → o .left ≡ k) × (numberOf (o .answer) ≡ 9 → o .left ≡ k)
 
-pub turn-leaves : (n : ℕ) (k : Kept) → Unturned k (turned n k)
+pub turn-leaves : (n : ℕ) (k : Chip) → Unturned k (turned n k)
 turn-leaves n k =
     turn-known (Unturned k) n k (λ m. ((λ e. refl), (λ e. refl))) (λ m p. ((λ e. refl), (λ e. refl)))
     (λ m p. ((λ e. absurd (omega arith)), (λ e. absurd (omega arith))))

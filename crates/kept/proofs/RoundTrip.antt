@@ -14,10 +14,12 @@ use Rattle.basics.specs.Bits.{bits}
 use Rattle.address.specs.Triples.{legal}
 use Rattle.address.specs.declared.triple.Triple.{Triple}
 use Rattle.processor.specs.declared.state.Processor.{Processor}
-use Rattle.processor.specs.States.{kept, registerOf, cleared}
+use Rattle.processor.specs.States.{chip, registerOf, cleared}
 use Rattle.processor.specs.Pointers.{pointerOf, nextX, incremented, incrementedIf}
-use Rattle.processor.specs.Bytes.{blockAt, loaded, stored, octet, codeRead, codeStored, code}
+use Rattle.address.specs.Places.{blockAt, loaded}
+use Rattle.processor.specs.Bytes.{stored, oct, codeRead, codeStored, krf}
 use Rattle.kept.proofs.Stores.{stored-here, code-c, code-b, code-a}
+use Rattle.address.specs.Boards.{memoryBytes}
 
 -- an increment leaves R0 to R3
 increment-keeps : (auxiliary : Bool) (p : Processor) (i : ℕ) → i < 4 → registerOf (incremented auxiliary p) i ≡ registerOf p i
@@ -56,52 +58,52 @@ module _ (l : List ℕ) (c b a : ℕ) (eight : length l ≡ 8) where
 
 -- three code bytes: p stores them with KRF, and later, the memory being the one that was left, q reads them with KRF
 module _
-    (p q : Processor) (m : List ℕ) (w r : Bool) (g : legal (pointerOf false p) ≡ true) (l : length m ≡ 16384)
+    (p q : Processor) (m : List ℕ) (w r : Bool) (g : legal (pointerOf false p) ≡ true) (l : length m ≡ memoryBytes)
     (same : pointerOf false q ≡ pointerOf false p) (eight : length (q .registers) ≡ 8) where
   abbrev left : List ℕ
-  left = codeStored (pointerOf false p) (kept (cleared p) m) .memory
+  left = codeStored (pointerOf false p) (chip (cleared p) m) .memory
 
   abbrev got : ℕ → ℕ
   got k = loaded (blockAt (pointerOf false q) k) left
 
   abbrev pub codeRound : Processor
-  codeRound = code true r (kept q (code false w (kept p m) .memory)) .processor
+  codeRound = krf true r (chip q (krf false w (chip p m) .memory)) .processor
 
   pub round-c : registerOf codeRound 1 ≡ registerOf p 1
-  unfolding code codeRead
+  unfolding krf codeRead
   round-c =
       asked-keeps r false _ 1 (omega arith)
       ∙ first (q .registers) (got 0) (got 1) (got 2) eight
       ∙ ap (λ (t : Triple). loaded (blockAt t 0) left) same
-      ∙ code-c (pointerOf false p) (kept (cleared p) m) g l
+      ∙ code-c (pointerOf false p) (chip (cleared p) m) g l
 
   pub round-b : registerOf codeRound 2 ≡ registerOf p 2
-  unfolding code codeRead
+  unfolding krf codeRead
   round-b =
       asked-keeps r false _ 2 (omega arith)
       ∙ second (q .registers) (got 0) (got 1) (got 2) eight
       ∙ ap (λ (t : Triple). loaded (blockAt t 1) left) same
-      ∙ code-b (pointerOf false p) (kept (cleared p) m) g l
+      ∙ code-b (pointerOf false p) (chip (cleared p) m) g l
 
   pub round-a : registerOf codeRound 3 ≡ registerOf p 3
-  unfolding code codeRead
+  unfolding krf codeRead
   round-a =
       asked-keeps r false _ 3 (omega arith)
       ∙ third (q .registers) (got 0) (got 1) (got 2) eight
       ∙ ap (λ (t : Triple). loaded (blockAt t 2) left) same
-      ∙ code-a (pointerOf false p) (kept (cleared p) m) g l
+      ∙ code-a (pointerOf false p) (chip (cleared p) m) g l
 
 -- one byte by OCT, through either pointer each time
 module _
-    (x y : Bool) (p q : Processor) (m : List ℕ) (w r : Bool) (g : legal (pointerOf x p) ≡ true) (l : length m ≡ 16384)
+    (x y : Bool) (p q : Processor) (m : List ℕ) (w r : Bool) (g : legal (pointerOf x p) ≡ true) (l : length m ≡ memoryBytes)
     (same : pointerOf y q ≡ pointerOf x p) (eight : length (q .registers) ≡ 8) where
   abbrev pub byteRound : Processor
-  byteRound = octet true y r (kept q (octet false x w (kept p m) .memory)) .processor
+  byteRound = oct true y r (chip q (oct false x w (chip p m) .memory)) .processor
 
   pub round-byte : registerOf byteRound 1 ≡ registerOf p 1
-  unfolding octet
+  unfolding oct
   round-byte =
       asked-keeps r y _ 1 (omega arith)
       ∙ getD-set-same (q .registers) 1 _ 0 (rw eight (omega arith))
-      ∙ ap (λ (t : Triple). loaded t (stored (pointerOf x p) (registerOf p 1) (kept (cleared p) m) .memory)) same
-      ∙ stored-here (pointerOf x p) (registerOf p 1) (kept (cleared p) m) g l
+      ∙ ap (λ (t : Triple). loaded t (stored (pointerOf x p) (registerOf p 1) (chip (cleared p) m) .memory)) same
+      ∙ stored-here (pointerOf x p) (registerOf p 1) (chip (cleared p) m) g l

@@ -10,69 +10,70 @@ use lib.ListN.{length, length-set}
 use lib.Seq.{getD-set-same, getD-set-other}
 use Rattle.address.specs.Triples.{legal}
 use Rattle.address.specs.declared.triple.Triple.{Triple}
-use Rattle.address.proofs.Places.{legal-place, legal-injective, blocks-differ}
-use Rattle.processor.specs.States.{Kept, registerOf}
-use Rattle.processor.specs.Bytes.{placeAt, blockAt, loaded, stored, codeStored}
-use Rattle.processor.proofs.Laws.{legal-blocks}
+use Rattle.address.proofs.Places.{legal-place, legal-injective, blocks-differ, legal-blocks}
+use Rattle.processor.specs.States.{Chip, registerOf}
+use Rattle.address.specs.Places.{placeAt, blockAt, loaded}
+use Rattle.processor.specs.Bytes.{stored, codeStored}
+use Rattle.address.specs.Boards.{boardDistricts, memoryBytes}
 
 -- a store keeps the memory's length
-pub stored-long : (t : Triple) (v : ℕ) (k : Kept) → length (stored t v k .memory) ≡ length (k .memory)
+pub stored-long : (t : Triple) (v : ℕ) (k : Chip) → length (stored t v k .memory) ≡ length (k .memory)
 unfolding stored
 stored-long t v k = length-set (k .memory) (placeAt t) v
 
 -- and every register
-pub stored-registers : (t : Triple) (v : ℕ) (k : Kept) → stored t v k .processor .registers ≡ k .processor .registers
+pub stored-registers : (t : Triple) (v : ℕ) (k : Chip) → stored t v k .processor .registers ≡ k .processor .registers
 unfolding stored
 stored-registers t v k = refl
 
 -- the byte stored is there
-pub stored-here : (t : Triple) (v : ℕ) (k : Kept) → legal t ≡ true → length (k .memory) ≡ 16384 → loaded t (stored t v k .memory) ≡ v
+pub stored-here : (t : Triple) (v : ℕ) (k : Chip) → legal t ≡ true → length (k .memory) ≡ memoryBytes → loaded t (stored t v k .memory) ≡ v
 unfolding stored
-stored-here t v k g e = getD-set-same (k .memory) (placeAt t) v 0 (rw e (legal-place t g))
+stored-here t v k g e = getD-set-same (k .memory) (placeAt t) v 0 (rw e (legal-place _ t g))
 
 -- the byte at every other legal place is as it was
 pub stored-elsewhere :
-    (t u : Triple) (v : ℕ) (k : Kept) → legal t ≡ true → legal u ≡ true → u ≢ t → loaded u (stored t v k .memory) ≡ loaded u (k .memory)
+    (t u : Triple) (v : ℕ) (k : Chip) → legal t ≡ true → legal u ≡ true → u ≢ t → loaded u (stored t v k .memory) ≡ loaded u (k .memory)
 unfolding stored
-stored-elsewhere t u v k g h d = getD-set-other (k .memory) (placeAt t) (placeAt u) v 0 (λ e. d (legal-injective u t h g e))
+stored-elsewhere t u v k g h d = getD-set-other (k .memory) (placeAt t) (placeAt u) v 0 (λ e. d (legal-injective _ u t h g e))
 
 -- two of the three blocks of a triple are different triples
 blocks-apart : (t : Triple) (i j : ℕ) → i < 3 → j < 3 → i ≢ j → blockAt t i ≢ blockAt t j
 blocks-apart t i j a b d e = d (blocks-differ (t .z) i j (omega arith) (omega arith) (ap (λ (u : Triple). u .z) e))
 
 -- KRF's three bytes are each at their place
-module _ (t : Triple) (k : Kept) (g : legal t ≡ true) (l : length (k .memory) ≡ 16384) where
+module _ (t : Triple) (k : Chip) (g : legal t ≡ true) (l : length (k .memory) ≡ memoryBytes) where
   abbrev r1 : ℕ
   r1 = registerOf (k .processor) 1
 
-  abbrev one : Kept
+  abbrev one : Chip
   one = stored (blockAt t 0) r1 k
 
-  abbrev two : Kept
+  abbrev two : Chip
   two = stored (blockAt t 1) (registerOf (k .processor) 2) one
 
-  long-one : length (one .memory) ≡ 16384
+  long-one : length (one .memory) ≡ memoryBytes
   long-one = stored-long (blockAt t 0) r1 k ∙ l
 
-  long-two : length (two .memory) ≡ 16384
+  long-two : length (two .memory) ≡ memoryBytes
   long-two = stored-long (blockAt t 1) (registerOf (k .processor) 2) one ∙ long-one
 
-  other : (i j v : ℕ) (h : Kept) → i < 3 → j < 3 → j ≢ i → loaded (blockAt t j) (stored (blockAt t i) v h .memory) ≡ loaded (blockAt t j) (h .memory)
-  other i j v h a b d = stored-elsewhere (blockAt t i) (blockAt t j) v h (legal-blocks t i g) (legal-blocks t j g) (blocks-apart t j i b a d)
+  other : (i j v : ℕ) (h : Chip) → i < 3 → j < 3 → j ≢ i → loaded (blockAt t j) (stored (blockAt t i) v h .memory) ≡ loaded (blockAt t j) (h .memory)
+  other i j v h a b d = stored-elsewhere (blockAt t i) (blockAt t j) v h (legal-blocks boardDistricts t i g) (legal-blocks boardDistricts t j g) (blocks-apart t j i b a d)
 
   pub code-c : loaded (blockAt t 0) (codeStored t k .memory) ≡ registerOf (k .processor) 1
   unfolding codeStored
   code-c =
       other 2 0 (registerOf (k .processor) 3) two (omega arith) (omega arith) (λ e. omega arith)
       ∙ other 1 0 (registerOf (k .processor) 2) one (omega arith) (omega arith) (λ e. omega arith)
-      ∙ stored-here (blockAt t 0) r1 k (legal-blocks t 0 g) l
+      ∙ stored-here (blockAt t 0) r1 k (legal-blocks boardDistricts t 0 g) l
 
   pub code-b : loaded (blockAt t 1) (codeStored t k .memory) ≡ registerOf (k .processor) 2
   unfolding codeStored
   code-b =
       other 2 1 (registerOf (k .processor) 3) two (omega arith) (omega arith) (λ e. omega arith)
-      ∙ stored-here (blockAt t 1) (registerOf (k .processor) 2) one (legal-blocks t 1 g) long-one
+      ∙ stored-here (blockAt t 1) (registerOf (k .processor) 2) one (legal-blocks boardDistricts t 1 g) long-one
 
   pub code-a : loaded (blockAt t 2) (codeStored t k .memory) ≡ registerOf (k .processor) 3
   unfolding codeStored
-  code-a = stored-here (blockAt t 2) (registerOf (k .processor) 3) two (legal-blocks t 2 g) long-two
+  code-a = stored-here (blockAt t 2) (registerOf (k .processor) 3) two (legal-blocks boardDistricts t 2 g) long-two

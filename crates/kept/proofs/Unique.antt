@@ -6,7 +6,7 @@ use Prim.Native.Nat.{ℕ}
 use mathlib.Core.Path.{_≡_, sym, ap, _∙_}
 use mathlib.Core.List.{List}
 use Rattle.processor.specs.declared.state.Processor.{Processor}
-use Rattle.processor.specs.declared.answer.Answer.{Answer}
+use Rattle.command.specs.declared.answer.Answer.{Answer}
 use Rattle.processor.specs.declared.execute.Answered.{Answered}
 use Rattle.processor.specs.declared.draw.Drawn.{Drawn}
 use Rattle.processor.specs.Access.{Outcome, outcomeOf}

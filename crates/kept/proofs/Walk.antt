@@ -11,59 +11,31 @@ use lib.Dec.{eqb, leb}
 use lib.ListN.{length}
 use Rattle.basics.proofs.Choice.{pick-known, pick-either}
 use Rattle.basics.specs.Bits.{bits, isSet}
-use Rattle.address.specs.Triples.{legal}
+use Rattle.address.specs.Boards.{memoryBytes}
 use Rattle.address.specs.declared.triple.Triple.{Triple}
-use Rattle.reading.specs.Marks.{refused7, refused8, canDraw}
+use Rattle.shown.specs.Lengths.{romBytes, columnBytes, pictureBytes}
+use Rattle.shown.specs.Refusals.{refused7, refused8, canDraw}
 use Rattle.processor.specs.declared.state.Processor.{Processor}
-use Rattle.processor.specs.declared.command.Command.{Command}
-use Rattle.processor.specs.declared.command.Command.the-variants.{Nop, Ind, Krf, Oct, NotListed}
-use Rattle.processor.specs.declared.answer.Answer.the-variants as answer
-use Rattle.processor.specs.declared.answer.Drawing.{Drawing}
-use Rattle.processor.specs.declared.answer.Drawing.the-variants as drawing
-use Rattle.processor.specs.Answers.{drawNumberOf}
-use Rattle.processor.specs.Commands.{commandOf}
-use Rattle.processor.specs.States.{Kept, kept, registerOf, registerRead, withRegister, withLx, indirectWritten}
-use Rattle.processor.specs.Pointers.{pointerOf, incremented, incrementedIf}
-use Rattle.processor.specs.Bytes.{stored, octet, codeRead, codeStored, code}
-use Rattle.processor.specs.Access.{Outcome, outcome, indirect, atPointer, ran, executed, checked, written, readOut, phased, turned}
+use Rattle.command.specs.declared.Command.{Command}
+use Rattle.command.specs.declared.Command.the-variants.{Nop, Ind, Krf, Oct, NotListed}
+use Rattle.command.specs.declared.answer.Answer.the-variants as answer
+use Rattle.command.specs.declared.answer.Drawing.{Drawing}
+use Rattle.command.specs.declared.answer.Drawing.the-variants as drawing
+use Rattle.command.specs.Answers.{drawNumberOf}
+use Rattle.command.specs.Commands.{commandOf}
+use Rattle.processor.specs.States.{Chip, chip, registerOf, registerRead, withRegister, withLx, indirectWritten}
+use Rattle.processor.specs.Pointers.{incremented, incrementedIf}
+use Rattle.processor.specs.Bytes.{stored, oct, codeRead, codeStored, krf}
+use Rattle.processor.specs.Access.{Outcome, outcome, isUnlisted, isAstray, effect, indirect, ran, executed, checked, written, readOut, phased, turned}
 use Rattle.processor.specs.Draws.{DrawOutcome, drawOutcome, drawnPage, drawn}
-use Rattle.kept.specs.Orders.{firstOf, isUnlisted, isAstray, drawOrder}
+use Rattle.kept.specs.Orders.{firstOf, drawOrder}
 use Rattle.kept.specs.Quiet.{isStore}
 use Rattle.kept.specs.Rules.{isShown}
 use Rattle.kept.specs.Runs.{Operation, write, read, turn, draw, World, step, run, redone, drawnIn}
 
--- what a command does where nothing refuses it
-abbrev pub effect : Command → Kept → Kept
-effect Nop k = k
-effect (Ind r reads) k = kept (indirect r reads (k .processor)) (k .memory)
-effect (Krf reads increments) k = code reads increments k
-effect (Oct reads auxiliary increments) k = octet reads auxiliary increments k
-effect NotListed k = k
-
--- a command with a pointer: its pointer astray, and done
-pointer-known :
-    (P : Outcome → Type 0) (auxiliary : Bool) (v : ℕ) (k done : Kept) →
-    (not (legal (pointerOf auxiliary (k .processor))) ≡ true → P (outcome k (answer.BadPointer v))) →
-    (not (legal (pointerOf auxiliary (k .processor))) ≡ false → P (outcome done (answer.Accepted v))) → P (atPointer auxiliary v k done)
-unfolding atPointer
-pointer-known P auxiliary v k done astray accepted =
-    pick-known P (legal (pointerOf auxiliary (k .processor))) _ _ (λ e. accepted (ap not e)) (λ e. astray (ap not e))
-
--- the ends of a command: not listed, its pointer astray, and accepted
-ran-known :
-    (P : Outcome → Type 0) (c : Command) (v : ℕ) (k : Kept) → (isUnlisted c ≡ true → P (outcome k (answer.NotListed v))) →
-    (isUnlisted c ≡ false → isAstray c (k .processor) ≡ true → P (outcome k (answer.BadPointer v))) →
-    (isUnlisted c ≡ false → isAstray c (k .processor) ≡ false → P (outcome (effect c k) (answer.Accepted v))) → P (ran c v k)
-unfolding ran
-ran-known P Nop v k unlisted astray accepted = accepted refl refl
-ran-known P (Ind r reads) v k unlisted astray accepted = accepted refl refl
-ran-known P (Krf reads increments) v k unlisted astray accepted = pointer-known P false v k _ (astray refl) (accepted refl)
-ran-known P (Oct reads auxiliary increments) v k unlisted astray accepted = pointer-known P auxiliary v k _ (astray refl) (accepted refl)
-ran-known P NotListed v k unlisted astray accepted = unlisted refl
-
 -- the tests of an access before its command: the memory's length, and the address's high bits
-abbrev pub isWhole : Kept → Bool
-isWhole k = eqb (length (k .memory)) 16384
+abbrev pub isWhole : Chip → Bool
+isWhole k = eqb (length (k .memory)) memoryBytes
 
 abbrev pub isChosen : ℕ → Bool
 isChosen address = eqb (bits 4 4 address) 2
@@ -73,54 +45,56 @@ abbrev pub commandIn : Processor → Command
 commandIn p = commandOf (registerOf p 0)
 
 -- P at each end of an access to k that gives the value v and has left p of the state before its command, with what is known there
-pub record Ends (address v : ℕ) (k : Kept) (p : Processor) (P : Outcome → Type 0) : Type 0 where
+pub record Ends (address v : ℕ) (k : Chip) (p : Processor) (P : Outcome → Type 0) : Type 0 where
   pub wrong-memory : isWhole k ≡ false → P (outcome k answer.WrongMemory)
   pub wrong-address : isWhole k ≡ true → isChosen address ≡ false → P (outcome k answer.WrongAddress)
   pub not-executed :
-      isWhole k ≡ true → isChosen address ≡ true → isSet 3 address ≡ false → P (outcome (kept p (k .memory)) (answer.Accepted v))
+      isWhole k ≡ true → isChosen address ≡ true → isSet 3 address ≡ false → P (outcome (chip p (k .memory)) (answer.Accepted v))
   pub not-listed :
       isWhole k ≡ true → isChosen address ≡ true → isSet 3 address ≡ true → isUnlisted (commandIn p) ≡ true →
-      P (outcome (kept p (k .memory)) (answer.NotListed v))
+      P (outcome (chip p (k .memory)) (answer.NotListed v))
   pub bad-pointer :
       isWhole k ≡ true → isChosen address ≡ true → isSet 3 address ≡ true → isUnlisted (commandIn p) ≡ false →
-      isAstray (commandIn p) p ≡ true → P (outcome (kept p (k .memory)) (answer.BadPointer v))
+      isAstray (commandIn p) p ≡ true → P (outcome (chip p (k .memory)) (answer.BadPointer v))
   pub accepted :
       isWhole k ≡ true → isChosen address ≡ true → isSet 3 address ≡ true → isUnlisted (commandIn p) ≡ false →
-      isAstray (commandIn p) p ≡ false → P (outcome (effect (commandIn p) (kept p (k .memory))) (answer.Accepted v))
+      isAstray (commandIn p) p ≡ false → P (outcome (effect (commandIn p) (chip p (k .memory))) (answer.Accepted v))
 
 access-known :
-    (P : Outcome → Type 0) (address v : ℕ) (k : Kept) (p : Processor) → Ends address v k p P →
-    P (checked address k (executed address v (kept p (k .memory))))
-unfolding checked executed
+    (P : Outcome → Type 0) (address v : ℕ) (k : Chip) (p : Processor) → Ends address v k p P →
+    P (checked address k (executed address v (chip p (k .memory))))
+unfolding checked executed ran
 access-known P address v k p ends =
     pick-known P (isWhole k) _ _
     (λ m.
     pick-known P (isChosen address) _ _
     (λ a.
     pick-known P (isSet 3 address) _ _
-    (λ x. ran-known P (commandIn p) v (kept p (k .memory)) (ends .not-listed m a x) (ends .bad-pointer m a x) (ends .accepted m a x))
+    (λ x.
+    pick-known P (isUnlisted (commandIn p)) _ _ (ends .not-listed m a x)
+    (λ u. pick-known P (isAstray (commandIn p) p) _ _ (ends .bad-pointer m a x u) (ends .accepted m a x u)))
     (ends .not-executed m a))
     (ends .wrong-address m))
     (ends .wrong-memory)
 
 -- a write: its register is written first
-abbrev pub registered : ℕ → ℕ → Kept → Processor
+abbrev pub registered : ℕ → ℕ → Chip → Processor
 registered address v k = withRegister (k .processor) (bits 0 3 address) v
 
-pub write-known : (P : Outcome → Type 0) (address v : ℕ) (k : Kept) → Ends address 0 k (registered address v k) P → P (written address v k)
+pub write-known : (P : Outcome → Type 0) (address v : ℕ) (k : Chip) → Ends address 0 k (registered address v k) P → P (written address v k)
 unfolding written
 write-known P address v k ends = access-known P address 0 k (registered address v k) ends
 
 -- a read changes no register by itself
 pub read-known :
-    (P : Outcome → Type 0) (address : ℕ) (k : Kept) → Ends address (registerRead (k .processor) (bits 0 3 address)) k (k .processor) P →
+    (P : Outcome → Type 0) (address : ℕ) (k : Chip) → Ends address (registerRead (k .processor) (bits 0 3 address)) k (k .processor) P →
     P (readOut address k)
 unfolding readOut
 read-known P address k ends = access-known P address (registerRead (k .processor) (bits 0 3 address)) k (k .processor) ends
 
 -- the ends of a phase change
 pub turn-known :
-    (P : Outcome → Type 0) (n : ℕ) (k : Kept) → (isWhole k ≡ false → P (outcome k answer.WrongMemory)) →
+    (P : Outcome → Type 0) (n : ℕ) (k : Chip) → (isWhole k ≡ false → P (outcome k answer.WrongMemory)) →
     (isWhole k ≡ true → leb n 1 ≡ false → P (outcome k answer.WrongPhase)) →
     (isWhole k ≡ true → leb n 1 ≡ true → P (outcome (phased n k) (answer.Accepted 0))) → P (turned n k)
 unfolding turned
@@ -135,13 +109,13 @@ pub draw-known :
     (firstOf (drawOrder p m rom picture) ≡ 0 → isShown p ≡ true → P (drawnPage p m rom picture)) → P (drawn p m rom picture)
 unfolding drawn canDraw
 draw-known P p m rom picture refused accepted =
-    pick-known P (eqb (length m) 16384) _ _
+    pick-known P (eqb (length m) memoryBytes) _ _
     (λ e1.
-    pick-known P (eqb (length rom) 6400) _ _
+    pick-known P (eqb (length rom) romBytes) _ _
     (λ e5.
-    pick-known P (eqb (length picture) 40000) _ _
+    pick-known P (eqb (length picture) (pictureBytes columnBytes)) _ _
     (λ e6.
-    pick-known P (refused7 _ _) _ _ (λ e7. refused drawing.NotBuilt (rw (e1, e5, e6, e7)) (λ z. omega arith))
+    pick-known P (refused7 _) _ _ (λ e7. refused drawing.NotBuilt (rw (e1, e5, e6, e7)) (λ z. omega arith))
     (λ e7.
     pick-known P (refused8 _) _ _ (λ e8. refused drawing.LowOrigin (rw (e1, e5, e6, e7, e8)) (λ z. omega arith))
     (λ e8. accepted (rw (e1, e5, e6, e7, e8)) (rw (e7, e8)))))
@@ -151,30 +125,30 @@ draw-known P p m rom picture refused accepted =
 
 -- K is kept by each part of an access. No store keeps "the memory is m", and no IND written "the marks are l"; such a property is kept as long
 -- as certain commands do not run. These are barred, and a store or an IND is asked about only where a command that is not barred does it.
-pub record KeptBy (barred : Command → Bool) (K : Kept → Type 0) : Type 0 where
-  pub register : (k : Kept) (n v : ℕ) → K k → K (kept (withRegister (k .processor) n v) (k .memory))
-  pub lx : (k : Kept) (m a : Bool) → K k → K (kept (withLx (k .processor) m a) (k .memory))
-  pub store : (c : Command) → isStore c ≡ true → barred c ≡ false → (t : Triple) (v : ℕ) (k : Kept) → K k → K (stored t v k)
-  pub ind : (r : ℕ) → barred (Ind r false) ≡ false → (k : Kept) → K k → K (kept (indirectWritten (k .processor) r) (k .memory))
+pub record KeptBy (barred : Command → Bool) (K : Chip → Type 0) : Type 0 where
+  pub register : (k : Chip) (n v : ℕ) → K k → K (chip (withRegister (k .processor) n v) (k .memory))
+  pub lx : (k : Chip) (m a : Bool) → K k → K (chip (withLx (k .processor) m a) (k .memory))
+  pub store : (c : Command) → isStore c ≡ true → barred c ≡ false → (t : Triple) (v : ℕ) (k : Chip) → K k → K (stored t v k)
+  pub ind : (r : ℕ) → barred (Ind r false) ≡ false → (k : Chip) → K k → K (chip (indirectWritten (k .processor) r) (k .memory))
 
 -- and so by every command that is not barred, and by every access that executes none that is
-module _ (barred : Command → Bool) (K : Kept → Type 0) (by : KeptBy barred K) where
-  increment-keeps : (auxiliary : Bool) (k : Kept) → K k → K (kept (incremented auxiliary (k .processor)) (k .memory))
+module _ (barred : Command → Bool) (K : Chip → Type 0) (by : KeptBy barred K) where
+  increment-keeps : (auxiliary : Bool) (k : Chip) → K k → K (chip (incremented auxiliary (k .processor)) (k .memory))
   unfolding incremented
   increment-keeps true k h =
       let j = by .register k 5 _ h in
-      pick-either (λ (q : Processor). K (kept q (k .memory))) (eqb (bits 0 6 (registerOf (k .processor) 5)) 39) _ _ (by .lx _ _ true j) j
+      pick-either (λ (q : Processor). K (chip q (k .memory))) (eqb (bits 0 6 (registerOf (k .processor) 5)) 39) _ _ (by .lx _ _ true j) j
   increment-keeps false k h =
       let j = by .register k 7 _ h in
-      pick-either (λ (q : Processor). K (kept q (k .memory))) (eqb (bits 0 6 (registerOf (k .processor) 7)) 39) _ _ (by .lx _ true _ j) j
+      pick-either (λ (q : Processor). K (chip q (k .memory))) (eqb (bits 0 6 (registerOf (k .processor) 7)) 39) _ _ (by .lx _ true _ j) j
 
-  pub asked-keeps : (asked auxiliary : Bool) (k : Kept) → K k → K (kept (incrementedIf asked auxiliary (k .processor)) (k .memory))
+  pub asked-keeps : (asked auxiliary : Bool) (k : Chip) → K k → K (chip (incrementedIf asked auxiliary (k .processor)) (k .memory))
   unfolding incrementedIf
   asked-keeps true auxiliary k h = increment-keeps auxiliary k h
   asked-keeps false auxiliary k h = h
 
-  pub effect-keeps : (c : Command) → barred c ≡ false → (k : Kept) → K k → K (effect c k)
-  unfolding indirect code codeRead codeStored octet
+  pub effect-keeps : (c : Command) → barred c ≡ false → (k : Chip) → K k → K (effect c k)
+  unfolding indirect krf codeRead codeStored oct
   effect-keeps Nop n k h = h
   effect-keeps (Ind r true) n k h = by .register k 1 _ h
   effect-keeps (Ind r false) n k h = by .ind r n k h
@@ -189,7 +163,7 @@ module _ (barred : Command → Bool) (K : Kept → Type 0) (by : KeptBy barred K
   effect-keeps NotListed n k h = h
 
   access-keeps :
-      (address v : ℕ) (k : Kept) (p : Processor) → (isSet 3 address ≡ true → barred (commandIn p) ≡ false) → K k → K (kept p (k .memory)) →
+      (address v : ℕ) (k : Chip) (p : Processor) → (isSet 3 address ≡ true → barred (commandIn p) ≡ false) → K k → K (chip p (k .memory)) →
       Ends address v k p (λ (o : Outcome). K (o .left))
   access-keeps address v k p n h j =
       record {
@@ -198,17 +172,17 @@ module _ (barred : Command → Bool) (K : Kept → Type 0) (by : KeptBy barred K
         not-executed = λ m a x. j;
         not-listed = λ m a x u. j;
         bad-pointer = λ m a x u s. j;
-        accepted = λ m a x u s. effect-keeps (commandIn p) (n x) (kept p (k .memory)) j;
+        accepted = λ m a x u s. effect-keeps (commandIn p) (n x) (chip p (k .memory)) j;
       }
 
   pub write-keeps :
-      (address v : ℕ) (k : Kept) → (isSet 3 address ≡ true → barred (commandIn (registered address v k)) ≡ false) → K k → K (written address v k .left)
+      (address v : ℕ) (k : Chip) → (isSet 3 address ≡ true → barred (commandIn (registered address v k)) ≡ false) → K k → K (written address v k .left)
   write-keeps address v k n h = write-known _ address v k (access-keeps address 0 k (registered address v k) n h (by .register k _ v h))
 
-  pub read-keeps : (address : ℕ) (k : Kept) → (isSet 3 address ≡ true → barred (commandIn (k .processor)) ≡ false) → K k → K (readOut address k .left)
+  pub read-keeps : (address : ℕ) (k : Chip) → (isSet 3 address ≡ true → barred (commandIn (k .processor)) ≡ false) → K k → K (readOut address k .left)
   read-keeps address k n h = read-known _ address k (access-keeps address _ k (k .processor) n h h)
 
-pub turn-keeps : (K : Kept → Type 0) (n : ℕ) (k : Kept) → K k → K (phased n k) → K (turned n k .left)
+pub turn-keeps : (K : Chip → Type 0) (n : ℕ) (k : Chip) → K k → K (phased n k) → K (turned n k .left)
 turn-keeps K n k h t = turn-known (λ (o : Outcome). K (o .left)) n k (λ m. h) (λ m e. h) (λ m e. t)
 
 -- W says what holds of a world while some operations are still to come: where each of them hands it on, it holds after the run
@@ -222,24 +196,24 @@ abbrev pub noneBarred : Command → Bool
 noneBarred c = false
 
 -- the state and the memory of a world, and a world with others
-abbrev pub keptOf : World → Kept
-keptOf w = kept (w .processor) (w .memory)
+abbrev pub chipOf : World → Chip
+chipOf w = chip (w .processor) (w .memory)
 
-abbrev pub withKept : World → Kept → World
-withKept w k = record { processor = k .processor; memory = k .memory; rom = w .rom; picture = w .picture }
+abbrev pub withChip : World → Chip → World
+withChip w k = record { processor = k .processor; memory = k .memory; rom = w .rom; picture = w .picture }
 
 -- W is kept by each kind of operation, whatever command runs
 pub record KeptByAll (W : World → Type 0) : Type 0 where
-  pub access : (w : World) → KeptBy noneBarred (λ k. W (withKept w k))
-  pub turning : (w : World) (n : ℕ) → W w → W (withKept w (phased n (keptOf w)))
+  pub access : (w : World) → KeptBy noneBarred (λ k. W (withChip w k))
+  pub turning : (w : World) (n : ℕ) → W w → W (withChip w (phased n (chipOf w)))
   pub drawing : (w : World) → W w → W (redone (drawnIn w) w)
 
 -- and so by every operation, and by every run
 module _ (W : World → Type 0) (by : KeptByAll W) where
   pub step-keeps : (o : Operation) (w : World) → W w → W (step o w)
-  step-keeps (write address v) w h = write-keeps noneBarred _ (by .access w) address v (keptOf w) (λ x. refl) h
-  step-keeps (read address) w h = read-keeps noneBarred _ (by .access w) address (keptOf w) (λ x. refl) h
-  step-keeps (turn n) w h = turn-keeps (λ k. W (withKept w k)) n (keptOf w) h (by .turning w n h)
+  step-keeps (write address v) w h = write-keeps noneBarred _ (by .access w) address v (chipOf w) (λ x. refl) h
+  step-keeps (read address) w h = read-keeps noneBarred _ (by .access w) address (chipOf w) (λ x. refl) h
+  step-keeps (turn n) w h = turn-keeps (λ k. W (withChip w k)) n (chipOf w) h (by .turning w n h)
   step-keeps draw w h = by .drawing w h
 
   pub run-keeps : (os : List Operation) (w : World) → W w → W (run os w)

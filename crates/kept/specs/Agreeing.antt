@@ -4,7 +4,7 @@ use Prim.Native.Nat.{ℕ}
 use mathlib.Core.Path.{_≡_}
 use mathlib.Core.Bool.{Bool, true}
 use mathlib.Core.List.{List}
-use Rattle.page.specs.Codes.{byteAt}
+use Rattle.address.specs.Places.{byteAt}
 
 -- every place that passes holds the same byte in both
 abbrev pub Agree : (ℕ → Bool) → List ℕ → List ℕ → Type 0

@@ -4,9 +4,9 @@ use mathlib.Core.Path.{_≡_}
 use mathlib.Core.Bool.{Bool, true, false, _&&_}
 use mathlib.Core.List.{List, [], _∷_}
 use Rattle.basics.specs.Bits.{bits, isSet}
-use Rattle.processor.specs.declared.command.Command.{Command}
-use Rattle.processor.specs.declared.command.Command.the-variants.{Nop, Ind, Krf, Oct, NotListed}
-use Rattle.processor.specs.Commands.{commandOf}
+use Rattle.command.specs.declared.Command.{Command}
+use Rattle.command.specs.declared.Command.the-variants.{Nop, Ind, Krf, Oct, NotListed}
+use Rattle.command.specs.Commands.{commandOf}
 use Rattle.processor.specs.States.{registerOf, withRegister}
 use Rattle.kept.specs.Runs.{Operation, write, read, turn, draw, World, step}
 

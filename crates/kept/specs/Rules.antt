@@ -7,39 +7,42 @@ use lib.Dec.{eqb, leb}
 use lib.ListN.{length, getD}
 use Rattle.basics.specs.Bits.{bits, isSet}
 use Rattle.address.specs.Triples.{legal}
+use Rattle.address.specs.Boards.{memoryBytes}
+use Rattle.address.specs.Places.{placeAt, blockAt, loaded}
 use Rattle.address.specs.declared.triple.Triple.{Triple}
 use Rattle.reading.specs.Lists.{onList}
-use Rattle.reading.specs.Marks.{canDraw, flashIn}
-use Rattle.processor.specs.declared.command.Command.{Command}
-use Rattle.processor.specs.declared.command.Command.the-variants.{Nop, Ind, Krf, Oct, NotListed}
+use Rattle.shown.specs.Refusals.{canDraw}
+use Rattle.reading.specs.Marks.{flashIn}
+use Rattle.command.specs.declared.Command.{Command}
+use Rattle.command.specs.declared.Command.the-variants.{Nop, Ind, Krf, Oct, NotListed}
 use Rattle.processor.specs.declared.state.Processor.{Processor}
-use Rattle.processor.specs.Answers.{drawNumberOf}
-use Rattle.processor.specs.Commands.{commandOf}
-use Rattle.processor.specs.States.{Kept, kept, registerOf, tgsOf, patOf, dorOf, rorOf, withRegister, cleared}
+use Rattle.command.specs.Answers.{drawNumberOf}
+use Rattle.command.specs.Commands.{commandOf}
+use Rattle.processor.specs.States.{Chip, chip, registerOf, shownOf, withRegister, cleared}
 use Rattle.processor.specs.Pointers.{pointerOf}
-use Rattle.processor.specs.Bytes.{placeAt, blockAt, loaded, stored}
+use Rattle.processor.specs.Bytes.{stored}
 use Rattle.kept.specs.Runs.{Operation, write, read, turn, draw, World, drawnIn}
 
 -- a draw would get neither 7 nor 8
 abbrev pub isShown : Processor → Bool
-isShown p = canDraw (tgsOf p) (patOf p) (rorOf p)
+isShown p = canDraw (shownOf p)
 
 -- A store that changes a byte marks the rows whose list, taken just before that store, holds it; none while a draw would get 7 or 8
-abbrev pub storeRule : Triple → ℕ → Kept → ℕ → Bool
+abbrev pub storeRule : Triple → ℕ → Chip → ℕ → Bool
 storeRule t v k r =
     let p = k .processor in
-    (isShown p && not (eqb (loaded t (k .memory)) v)) && onList (rorOf p) (dorOf p) (k .memory) (placeAt t) r
+    (isShown p && not (eqb (loaded t (k .memory)) v)) && onList (shownOf p) (k .memory) (placeAt t) r
 
 -- A changed value in ROR, DOR, PAT or TGS marks all 25
 abbrev pub indirectRule : ℕ → Processor → Bool
 indirectRule n p = not (eqb (getD (p .indirect) n 0) (registerOf p 1)) && not (eqb n 2)
 
 -- A changed phase marks rows with a bichrome cell whose A3 is set; none while a draw would get 7 or 8
-abbrev pub phaseRule : ℕ → Kept → ℕ → Bool
-phaseRule n k r = let p = k .processor in not (eqb (p .phase) n) && (isShown p && flashIn (rorOf p) (k .memory) r)
+abbrev pub phaseRule : ℕ → Chip → ℕ → Bool
+phaseRule n k r = let p = k .processor in not (eqb (p .phase) n) && (isShown p && flashIn (shownOf p) (k .memory) r)
 
 -- KRF stores C, then B, then A
-abbrev pub codeRule : Triple → Kept → ℕ → Bool
+abbrev pub codeRule : Triple → Chip → ℕ → Bool
 codeRule t k r =
     let p = k .processor in
     let k1 = stored (blockAt t 0) (registerOf p 1) k in
@@ -47,28 +50,28 @@ codeRule t k r =
     (storeRule (blockAt t 0) (registerOf p 1) k r || storeRule (blockAt t 1) (registerOf p 2) k1 r) || storeRule (blockAt t 2) (registerOf p 3) k2 r
 
 -- a command: those that store mark by their stores, where their pointer is legal
-abbrev pub commandRule : Command → Kept → ℕ → Bool
+abbrev pub commandRule : Command → Chip → ℕ → Bool
 commandRule Nop k r = false
 commandRule (Ind n true) k r = false
 commandRule (Ind n false) k r = indirectRule n (k .processor)
 commandRule (Krf true increments) k r = false
 commandRule (Krf false increments) k r =
-    legal (pointerOf false (k .processor)) && codeRule (pointerOf false (k .processor)) (kept (cleared (k .processor)) (k .memory)) r
+    legal (pointerOf false (k .processor)) && codeRule (pointerOf false (k .processor)) (chip (cleared (k .processor)) (k .memory)) r
 commandRule (Oct true auxiliary increments) k r = false
 commandRule (Oct false auxiliary increments) k r =
     legal (pointerOf auxiliary (k .processor))
-    && storeRule (pointerOf auxiliary (k .processor)) (registerOf (k .processor) 1) (kept (cleared (k .processor)) (k .memory)) r
+    && storeRule (pointerOf auxiliary (k .processor)) (registerOf (k .processor) 1) (chip (cleared (k .processor)) (k .memory)) r
 commandRule NotListed k r = false
 
 -- an access that is not refused with 1 or 2, and executes; k is what the register access left
-abbrev pub accessRule : ℕ → Kept → ℕ → Bool
+abbrev pub accessRule : ℕ → Chip → ℕ → Bool
 accessRule address k r =
-    eqb (length (k .memory)) 16384 && (eqb (bits 4 4 address) 2 && (isSet 3 address && commandRule (commandOf (registerOf (k .processor) 0)) k r))
+    eqb (length (k .memory)) memoryBytes && (eqb (bits 4 4 address) 2 && (isSet 3 address && commandRule (commandOf (registerOf (k .processor) 0)) k r))
 
 abbrev pub marksRow : Operation → World → ℕ → Bool
-marksRow (write address v) w r = accessRule address (kept (withRegister (w .processor) (bits 0 3 address) v) (w .memory)) r
-marksRow (read address) w r = accessRule address (kept (w .processor) (w .memory)) r
-marksRow (turn n) w r = eqb (length (w .memory)) 16384 && (leb n 1 && phaseRule n (kept (w .processor) (w .memory)) r)
+marksRow (write address v) w r = accessRule address (chip (withRegister (w .processor) (bits 0 3 address) v) (w .memory)) r
+marksRow (read address) w r = accessRule address (chip (w .processor) (w .memory)) r
+marksRow (turn n) w r = eqb (length (w .memory)) memoryBytes && (leb n 1 && phaseRule n (chip (w .processor) (w .memory)) r)
 marksRow draw w r = false
 
 -- an accepted draw clears the marks

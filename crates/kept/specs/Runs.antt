@@ -3,7 +3,7 @@
 use Prim.Native.Nat.{ℕ}
 use mathlib.Core.List.{List, [], _∷_}
 use Rattle.processor.specs.declared.state.Processor.{Processor}
-use Rattle.processor.specs.States.{kept, powerUp}
+use Rattle.processor.specs.States.{chip, powerUp}
 use Rattle.processor.specs.Access.{Outcome, written, readOut, turned}
 use Rattle.processor.specs.Draws.{DrawOutcome, drawn}
 
@@ -36,9 +36,9 @@ abbrev pub drawnIn : World → DrawOutcome
 drawnIn w = drawn (w .processor) (w .memory) (w .rom) (w .picture)
 
 abbrev pub step : Operation → World → World
-step (write address v) w = accessed (written address v (kept (w .processor) (w .memory))) w
-step (read address) w = accessed (readOut address (kept (w .processor) (w .memory))) w
-step (turn n) w = accessed (turned n (kept (w .processor) (w .memory))) w
+step (write address v) w = accessed (written address v (chip (w .processor) (w .memory))) w
+step (read address) w = accessed (readOut address (chip (w .processor) (w .memory))) w
+step (turn n) w = accessed (turned n (chip (w .processor) (w .memory))) w
 step draw w = redone (drawnIn w) w
 
 abbrev pub run : List Operation → World → World

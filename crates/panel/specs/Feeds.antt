@@ -4,8 +4,8 @@ use Prim.Native.Nat.{ℕ, zero, suc, _+_, _*_}
 use mathlib.Core.List.{List}
 use lib.ListN.{getD}
 use Rattle.processor.specs.declared.state.Processor.{Processor}
-use Rattle.processor.specs.Answers.{numberOf}
-use Rattle.processor.specs.States.{kept}
+use Rattle.command.specs.Answers.{numberOf}
+use Rattle.processor.specs.States.{chip}
 use Rattle.processor.specs.Access.{Outcome, written}
 use Rattle.panel.specs.declared.Fed.{Fed}
 
@@ -26,4 +26,4 @@ after o = record { processor = o .left .processor; memory = o .left .memory; las
 unfoldable pub fedPairs : List ℕ → Feeding → ℕ → Feeding
 fedPairs bytes f zero = f
 fedPairs bytes f (suc n) =
-    let g = fedPairs bytes f n in after (written (getD bytes (2 * n) 0) (getD bytes (2 * n + 1) 0) (kept (g .processor) (g .memory)))
+    let g = fedPairs bytes f n in after (written (getD bytes (2 * n) 0) (getD bytes (2 * n + 1) 0) (chip (g .processor) (g .memory)))

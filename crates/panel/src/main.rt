@@ -4,9 +4,13 @@ ghost use mathlib.Core.Path.{_≡_};
 ghost use Prim.Native.Nat.{_/_};
 ghost use lib.ListN.{length};
 ghost use Rattle.panel.specs.Feeds.{feeding, fedPairs};
+use address::board::MEMORY_BYTES;
 use libc::STDIN_FILENO;
 use libc::STDOUT_FILENO;
 use processor::state::Processor;
+use shown::length::PICTURE_BYTES;
+use shown::length::ROM_BYTES;
+use shown::length::ROW_BYTES;
 
 // The state after some writes, and the number of the last one's answer.
 struct Fed {
@@ -86,9 +90,9 @@ fn print_numbers(last: u8, number: u8, rows: usize) {
 }
 
 fn main() {
-    let mut memory = [0u8; 16384];
-    let rom = [0u8; 6400];
-    let mut picture = [0u8; 40000];
+    let mut memory = [0u8; MEMORY_BYTES];
+    let rom = [0u8; ROM_BYTES];
+    let mut picture = [0u8; PICTURE_BYTES];
     let start = Fed {
         processor: Processor::power_up(),
         last: 0,
@@ -97,5 +101,5 @@ fn main() {
     let drawn = end.processor.draw(&memory, &rom, &mut picture);
     let answer = drawn.answer;
     print_numbers(end.last, answer.number(), answer.rows());
-    print_bytes(&picture[1600..1608]);
+    print_bytes(&picture[ROW_BYTES..ROW_BYTES + 8]);
 }

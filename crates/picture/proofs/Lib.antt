@@ -1,5 +1,5 @@
-pub mod Tens
-pub mod Columns
 pub mod Drawn
 pub mod Redrawing
+pub mod Alike
 pub mod Phases
+pub mod Registers

@@ -1,3 +1,3 @@
 pub mod Rows
 pub mod Redraws
-pub mod Lines
+pub mod HowRows

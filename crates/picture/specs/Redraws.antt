@@ -7,7 +7,8 @@ use lib.ListN.{getD}
 use Rattle.basics.specs.Choice.{pick}
 use Rattle.basics.specs.Below.{countBelow}
 use Rattle.basics.specs.Parts.{joined, partOf}
-use Rattle.picture.specs.declared.settings.Settings.{Settings}
+use Rattle.shown.specs.declared.Shown.{Shown}
+use Rattle.shown.specs.Lengths.{columnBytes, rowBytes}
 use Rattle.picture.specs.Rows.{rowOf}
 
 -- row r is marked
@@ -18,14 +19,20 @@ isMarked marks r = getD marks r false
 abbrev pub markedRows : List Bool → ℕ → ℕ
 markedRows marks n = countBelow (isMarked marks) n
 
--- A row is the 1,600 bytes of the picture from 1,600 times its number: row r after a redraw
-abbrev pub rowAfter : List Bool → List ℕ → List ℕ → List ℕ → Settings → ℕ → List ℕ
-rowAfter marks picture m rom settings r = pick (isMarked marks r) (rowOf m rom settings r) (partOf 1600 picture r)
+-- A row is the 1,600 bytes of the picture from 1,600 times its number: row r after a redraw, with k bytes a column
+abbrev pub rowAfter : ℕ → List Bool → List ℕ → (ℕ → List ℕ) → ℕ → List ℕ
+rowAfter k marks picture row r = pick (isMarked marks r) (row r) (partOf (rowBytes k) picture r)
 
 -- the marked rows are redrawn and no other byte
-unfoldable pub redrawn : List Bool → List ℕ → List ℕ → List ℕ → Settings → List ℕ
-redrawn marks picture m rom settings = joined (rowAfter marks picture m rom settings) 25
+unfoldable pub redrawnRows : ℕ → List Bool → List ℕ → (ℕ → List ℕ) → List ℕ
+redrawnRows k marks picture row = joined (rowAfter k marks picture row) 25
+
+unfoldable pub redrawn : List Bool → List ℕ → List ℕ → List ℕ → Shown → List ℕ
+redrawn marks picture m rom shown = redrawnRows columnBytes marks picture (rowOf m rom shown)
 
 -- the picture drawn afresh: all 25 rows
-unfoldable pub fresh : List ℕ → List ℕ → Settings → List ℕ
-fresh m rom settings = joined (rowOf m rom settings) 25
+unfoldable pub freshRows : (ℕ → List ℕ) → List ℕ
+freshRows row = joined row 25
+
+unfoldable pub fresh : List ℕ → List ℕ → Shown → List ℕ
+fresh m rom shown = freshRows (rowOf m rom shown)

@@ -1,46 +1,56 @@
 // The redrawing of the marked rows: no other byte changes.
 ghost use mathlib.Core.Path.{_≡_};
 ghost use lib.ListN.{length};
+ghost use Rattle.address.specs.Boards.{memoryBytes};
+ghost use Rattle.shown.specs.Lengths.{romBytes, columnBytes, pictureBytes};
 ghost use Rattle.picture.specs.Redraws.{redrawn, markedRows};
 use crate::row::draw_row;
-use crate::settings::Settings;
 use page::code::row_buffer;
+use page::half::Above;
+use page::half::lower_halves_after;
+use shown::Shown;
+use shown::length::ROW_BYTES;
 
 // Returns the number of marked rows. The row buffer and the lower halves of a row that was just drawn are kept for the row below it.
 pub fn redraw(
     picture: &mut [u8],
     memory: &[u8],
     rom: &[u8],
-    settings: Settings,
+    shown: Shown,
     marks: [bool; 25],
 ) -> usize
-    requires { ⌜ (length (now picture) ≡ 40000) × (length (now memory) ≡ 16384) × (length (now rom) ≡ 6400) ⌝ }
-    ensures { λ n. ⌜ (now (picture .exit) ≡ redrawn marks (now (picture .entry)) (now (memory .entry)) (now (rom .entry)) settings) × (n ≡ markedRows marks 25) ⌝ }
+    requires { ⌜ (length (now picture) ≡ pictureBytes columnBytes) × (length (now memory) ≡ memoryBytes) × (length (now rom) ≡ romBytes) ⌝ }
+    ensures { λ n. ⌜ (now (picture .exit) ≡ redrawn marks (now (picture .entry)) (now (memory .entry)) (now (rom .entry)) shown) × (n ≡ markedRows marks 25) ⌝ }
 {
     let mut rows = 0;
-    let mut known = false;
-    let mut above = [[0u8; 3]; 40];
-    let mut halves = [false; 40];
+    let mut cells = [[0u8; 3]; 40];
+    let mut above = Above {
+        known: false,
+        lowers: [false; 40],
+    };
     for r in 0..25 {
         if !marks[r] {
-            known = false;
+            above = Above {
+                known: false,
+                lowers: [false; 40],
+            };
             continue;
         }
-        let cells = row_buffer(memory, settings.ror, r as u8);
-        let lowers = draw_row(
-            &mut picture[1600 * r..1600 * r + 1600],
+        let here = row_buffer(memory, shown, r as u8);
+        let lowers = lower_halves_after(memory, shown, r as u8, here, cells, above);
+        draw_row(
+            &mut picture[ROW_BYTES * r..ROW_BYTES * r + ROW_BYTES],
             memory,
             rom,
-            settings,
-            r as u8,
-            cells,
-            known,
-            above,
-            halves,
+            shown,
+            here,
+            lowers,
         );
-        above = cells;
-        halves = lowers;
-        known = true;
+        cells = here;
+        above = Above {
+            known: true,
+            lowers,
+        };
         rows += 1;
     }
     rows

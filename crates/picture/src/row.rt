@@ -2,23 +2,23 @@
 ghost use mathlib.Core.Path.{_≡_};
 ghost use lib.ListN.{length};
 ghost use Rattle.basics.specs.Parts.{joined};
-ghost use Rattle.page.specs.Codes.{rowBuffer};
-ghost use Rattle.page.specs.Halves.{lowerHalves, KnownAbove};
-ghost use Rattle.picture.specs.Lines.{lineOn};
-ghost use Rattle.picture.specs.Rows.{rowOf};
-use crate::line::line;
-use crate::pairs::Pairs;
-use crate::pairs::pairs_of;
-use crate::settings::Settings;
-use crate::ten::tens_of;
-use page::half::lower_halves_after;
+ghost use Rattle.address.specs.Boards.{memoryBytes};
+ghost use Rattle.shown.specs.Lengths.{romBytes, columnBytes, lineBytes, rowBytes};
+ghost use Rattle.lines.specs.HowLines.{lineOn};
+ghost use Rattle.picture.specs.Rows.{painted};
+ghost use Rattle.picture.specs.HowRows.{inputsOf};
+use lines::line::line;
+use lines::pairs::pairs_of;
+use lines::ten::tens_of;
 use page::half::right_halves;
+use shown::Shown;
+use shown::length::LINE_BYTES;
 
 fn copy_line(part: &mut [u8], line: [u8; 160])
-    requires { ⌜ length (now part) ≡ 160 ⌝ }
+    requires { ⌜ length (now part) ≡ lineBytes columnBytes ⌝ }
     ensures { λ _. ⌜ now (part .exit) ≡ line ⌝ }
 {
-    for i in 0..160 {
+    for i in 0..LINE_BYTES {
         part[i] = line[i];
     }
 }
@@ -29,41 +29,34 @@ fn draw_lines(
     cells: [[u8; 3]; 40],
     lowers: [bool; 40],
     tens: &[u8; 400],
-    pairs: Pairs,
+    pairs: &[u8; 160],
 )
-    requires { ⌜ length (now part) ≡ 1600 ⌝ }
-    ensures { λ _. ⌜ now (part .exit) ≡ joined (lineOn cells lowers (now (tens .entry)) (pairs .none) (pairs .left) (pairs .right) (pairs .both)) 10 ⌝ }
+    requires { ⌜ length (now part) ≡ rowBytes columnBytes ⌝ }
+    ensures { λ _. ⌜ now (part .exit) ≡ joined (lineOn cells lowers (now (tens .entry)) (now (pairs .entry))) 10 ⌝ }
 {
-    let none = pairs.none;
-    let left = pairs.left;
-    let right = pairs.right;
-    let both = pairs.both;
     for n in 0..10 {
-        let drawn = line(cells, lowers, tens, &none, &left, &right, &both, n);
-        copy_line(&mut part[160 * n..160 * n + 160], drawn);
+        let drawn = line(cells, lowers, tens, pairs, n);
+        copy_line(
+            &mut part[LINE_BYTES * n..LINE_BYTES * n + LINE_BYTES],
+            drawn,
+        );
     }
 }
 
-// Screen row `row`, in its part of the picture, from its row buffer. The row above is handed in with its lower halves where they are
-// known, and those of this row are handed back.
+// A row in its part of the picture, from its row buffer and its lower halves.
 pub fn draw_row(
     part: &mut [u8],
     memory: &[u8],
     rom: &[u8],
-    settings: Settings,
-    row: u8,
+    shown: Shown,
     cells: [[u8; 3]; 40],
-    known: bool,
-    above: [[u8; 3]; 40],
-    halves: [bool; 40],
-) -> [bool; 40]
-    requires { ⌜ (length (now part) ≡ 1600) × (length (now memory) ≡ 16384) × (length (now rom) ≡ 6400) × (cells ≡ rowBuffer (settings .ror) (now memory) row) × KnownAbove (settings .ror) (now memory) row known above halves ⌝ }
-    ensures { λ r. ⌜ (r ≡ lowerHalves (settings .ror) (now (memory .entry)) row) × (now (part .exit) ≡ rowOf (now (memory .entry)) (now (rom .entry)) settings row) ⌝ }
+    lowers: [bool; 40],
+)
+    requires { ⌜ (length (now part) ≡ rowBytes columnBytes) × (length (now memory) ≡ memoryBytes) × (length (now rom) ≡ romBytes) ⌝ }
+    ensures { λ _. ⌜ now (part .exit) ≡ painted (now (rom .entry)) shown (inputsOf (now (memory .entry)) shown cells lowers) ⌝ }
 {
-    let lowers = lower_halves_after(memory, settings.ror, row, cells, known, above, halves);
     let rights = right_halves(cells);
-    let tens = tens_of(memory, rom, settings.dor, cells, lowers, rights);
-    let pairs = pairs_of(cells, settings.pat, settings.phase);
-    draw_lines(part, cells, lowers, &tens, pairs);
-    lowers
+    let tens = tens_of(memory, rom, shown, cells, lowers, rights);
+    let pairs = pairs_of(cells, shown);
+    draw_lines(part, cells, lowers, &tens, &pairs);
 }

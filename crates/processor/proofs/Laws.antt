@@ -1,4 +1,4 @@
--- Laws of pointers, blocks and registers.
+-- Laws of pointers and registers.
 -- Assumes nothing.
 use Prim.Native.Nat.{ℕ, _+_, _-_, _/_, _%_, _<_}
 use mathlib.Core.Path.{_≡_, refl, sym, ap, _∙_}
@@ -12,33 +12,13 @@ use borrow.Author.Tests.{lt-ltb, leb-true, eq-eqb, ne-eqb}
 use Rattle.basics.specs.Bits.{bits}
 use Rattle.basics.specs.Choice.{pick}
 use Rattle.basics.proofs.Choice.{and-both, and-right}
-use Rattle.address.specs.Triples.{legal, onPage}
-use Rattle.address.specs.Places.{placeOf, blockOf}
+use Rattle.address.specs.Triples.{legal}
 use Rattle.address.specs.declared.triple.Triple.{Triple}
-use Rattle.address.proofs.Laws.{legal-page, legal-block, page-column}
-use Rattle.address.proofs.Places.{legal-place}
+use Rattle.address.proofs.Places.{legal-x}
 use Rattle.processor.specs.declared.state.Processor.{Processor}
-use Rattle.processor.specs.States.{Kept, kept, registerOf, withRegister, withLx, cleared}
-use Rattle.processor.specs.declared.command.Command.{Command}
-use Rattle.processor.specs.declared.command.Command.the-variants.{Nop, Ind, Krf, Oct, NotListed}
-use Rattle.processor.specs.Commands.{between, commandOf}
-use Rattle.processor.specs.Access.{Asked}
+use Rattle.processor.specs.States.{Chip, chip, registerOf, withRegister, withLx, cleared}
 use Rattle.processor.specs.Pointers.{pointerOf, nextX, incremented}
-use Rattle.processor.specs.Bytes.{blockAt, stored, codeRead, codeStored}
-
-pub legal-x : (t : Triple) → legal t ≡ true → t .x < 40
-legal-x t e = page-column (t .x) (t .y) (legal-page t e)
-
--- the three blocks of a legal triple are legal
-pub legal-blocks : (t : Triple) (k : ℕ) → legal t ≡ true → legal (blockAt t k) ≡ true
-unfolding legal
-legal-blocks t k e = and-both _ _ (legal-page t e) (lt-ltb (blockOf (t .z) k) 16 (omega (arith, legal-block t e)))
-
-pub legal-block-at : (t u : Triple) (k : ℕ) → u ≡ blockAt t k → legal t ≡ true → legal u ≡ true
-legal-block-at t u k e h = rw e (legal-blocks t k h)
-
-pub place-fits-in : (t : Triple) (p : ℕ) → p ≡ placeOf (t .x) (t .y) (t .z) → legal t ≡ true → p < 16384
-place-fits-in t p e h = rw e (legal-place t h)
+use Rattle.processor.specs.Bytes.{stored, codeRead, codeStored}
 
 -- registers 1 to 3 and the LX bits and marks are no part of a pointer
 pub pointer-registers : (auxiliary : Bool) (p : Processor) (n v : ℕ) → n < 4 → pointerOf auxiliary (withRegister p n v) ≡ pointerOf auxiliary p
@@ -55,7 +35,7 @@ pub pointer-cleared : (auxiliary : Bool) (p : Processor) → pointerOf auxiliary
 unfolding pointerOf
 pointer-cleared auxiliary p = refl
 
-pub pointer-stored : (auxiliary : Bool) (t : Triple) (v : ℕ) (k : Kept) → pointerOf auxiliary (stored t v k .processor) ≡ pointerOf auxiliary (k .processor)
+pub pointer-stored : (auxiliary : Bool) (t : Triple) (v : ℕ) (k : Chip) → pointerOf auxiliary (stored t v k .processor) ≡ pointerOf auxiliary (k .processor)
 unfolding pointerOf stored
 pointer-stored auxiliary t v k = refl
 
@@ -65,7 +45,7 @@ unfolding codeRead
 pointer-code-read auxiliary t p m =
     pointer-registers auxiliary _ 3 _ (omega arith) ∙ pointer-registers auxiliary _ 2 _ (omega arith) ∙ pointer-registers auxiliary p 1 _ (omega arith)
 
-pub pointer-code-stored : (auxiliary : Bool) (t : Triple) (k : Kept) → pointerOf auxiliary (codeStored t k .processor) ≡ pointerOf auxiliary (k .processor)
+pub pointer-code-stored : (auxiliary : Bool) (t : Triple) (k : Chip) → pointerOf auxiliary (codeStored t k .processor) ≡ pointerOf auxiliary (k .processor)
 unfolding codeStored
 pointer-code-stored auxiliary t k = pointer-stored auxiliary _ _ _ ∙ pointer-stored auxiliary _ _ _ ∙ pointer-stored auxiliary _ _ k
 
@@ -121,19 +101,19 @@ module _ (auxiliary : Bool) (p : Processor) (v : ℕ) where
 -- after the access to memory the pointer is where it was, so its X may be incremented
 module _ (auxiliary : Bool) (p free q : Processor) (f : free ≡ cleared p) (ok : legal (pointerOf auxiliary p) ≡ true) where
   same-x : pointerOf auxiliary q ≡ pointerOf auxiliary free → pointerOf auxiliary q .x < 40
-  same-x e = rw (e ∙ ap (pointerOf auxiliary) f ∙ pointer-cleared auxiliary p) (legal-x _ ok)
+  same-x e = rw (e ∙ ap (pointerOf auxiliary) f ∙ pointer-cleared auxiliary p) (legal-x _ _ ok)
 
   pub x-after-load : (v : ℕ) → q ≡ withRegister free 1 v → pointerOf auxiliary q .x < 40
   x-after-load v e = same-x (ap (pointerOf auxiliary) e ∙ pointer-registers auxiliary free 1 v (omega arith))
 
-  pub x-after-store : (t : Triple) (v : ℕ) (m n : List ℕ) → kept q n ≡ stored t v (kept free m) → pointerOf auxiliary q .x < 40
-  x-after-store t v m n e = same-x (ap (λ (k : Kept). pointerOf auxiliary (k .processor)) e ∙ pointer-stored auxiliary t v (kept free m))
+  pub x-after-store : (t : Triple) (v : ℕ) (m n : List ℕ) → chip q n ≡ stored t v (chip free m) → pointerOf auxiliary q .x < 40
+  x-after-store t v m n e = same-x (ap (λ (k : Chip). pointerOf auxiliary (k .processor)) e ∙ pointer-stored auxiliary t v (chip free m))
 
   pub x-after-code-read : (t : Triple) (m : List ℕ) → q ≡ codeRead t free m → pointerOf auxiliary q .x < 40
   x-after-code-read t m e = same-x (ap (pointerOf auxiliary) e ∙ pointer-code-read auxiliary t free m)
 
-  pub x-after-code-stored : (t : Triple) (m n : List ℕ) → kept q n ≡ codeStored t (kept free m) → pointerOf auxiliary q .x < 40
-  x-after-code-stored t m n e = same-x (ap (λ (k : Kept). pointerOf auxiliary (k .processor)) e ∙ pointer-code-stored auxiliary t (kept free m))
+  pub x-after-code-stored : (t : Triple) (m n : List ℕ) → chip q n ≡ codeStored t (chip free m) → pointerOf auxiliary q .x < 40
+  x-after-code-stored t m n e = same-x (ap (λ (k : Chip). pointerOf auxiliary (k .processor)) e ∙ pointer-code-stored auxiliary t (chip free m))
 
 -- the fields of an address, as the code works them out
 module _ (address : ℕ) where
@@ -150,23 +130,3 @@ module _ (address : ℕ) where
 pub pointer-legal :
     (auxiliary : Bool) (p : Processor) (t : Triple) (b : Bool) → t ≡ pointerOf auxiliary p → b ≡ legal t → legal (pointerOf auxiliary p) ≡ b
 pointer-legal auxiliary p t b e f = ap legal (sym e) ∙ sym f
-
--- of the commands that a byte names, an IND names one of eight registers
-asked-pick : (t : Bool) (x y : Command) → (t ≡ true → Asked x) → Asked y → Asked (pick t x y)
-asked-pick true x y f g = f refl
-asked-pick false x y f g = g
-
-pub asked : (b : ℕ) → Asked (commandOf b)
-unfolding commandOf
-asked b =
-    asked-pick (between 0x90 0x91 b) Nop _ (λ t. tt)
-    (asked-pick (between 0x81 0x84 b) (Ind (b - 0x80) false) _ (λ t. omega (arith, leb-true b 0x84 (and-right (leb 0x81 b) _ t)))
-    (asked-pick (eqb b 0x87) (Ind 7 false) _ (λ t. omega arith)
-    (asked-pick (between 0x89 0x8C b) (Ind (b - 0x88) true) _ (λ t. omega (arith, leb-true b 0x8C (and-right (leb 0x89 b) _ t)))
-    (asked-pick (eqb b 0x8F) (Ind 7 true) _ (λ t. omega arith)
-    (asked-pick (between 0x00 0x01 b) (Krf false (eqb b 0x01)) _ (λ t. tt)
-    (asked-pick (between 0x08 0x09 b) (Krf true (eqb b 0x09)) _ (λ t. tt)
-    (asked-pick (between 0x30 0x31 b) (Oct false false (eqb b 0x31)) _ (λ t. tt)
-    (asked-pick (between 0x34 0x35 b) (Oct false true (eqb b 0x35)) _ (λ t. tt)
-    (asked-pick (between 0x38 0x39 b) (Oct true false (eqb b 0x39)) _ (λ t. tt)
-    (asked-pick (between 0x3C 0x3D b) (Oct true true (eqb b 0x3D)) NotListed (λ t. tt) tt))))))))))

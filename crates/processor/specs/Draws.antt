@@ -5,18 +5,16 @@ use mathlib.Core.List.{List}
 use lib.Dec.{eqb}
 use lib.ListN.{length}
 use Rattle.basics.specs.Choice.{pick}
-use Rattle.picture.specs.declared.settings.Settings.{Settings}
-use Rattle.picture.specs.Redraws.{markedRows, redrawn}
-use Rattle.reading.specs.Marks.{refused7, refused8}
+use Rattle.address.specs.Boards.{memoryBytes}
+use Rattle.shown.specs.Lengths.{romBytes, columnBytes, pictureBytes}
+use Rattle.shown.specs.Refusals.{refused7, refused8}
+use Rattle.command.specs.declared.answer.Drawing.{Drawing}
+use Rattle.command.specs.declared.answer.Drawing.the-variants.{Accepted, WrongMemory, WrongRom, WrongPicture, NotBuilt, LowOrigin}
+use Rattle.page.specs.Marks.{markedRows, noneMarked}
+use Rattle.picture.specs.Redraws.{redrawn}
 use Rattle.processor.specs.declared.state.Processor.{Processor}
 use Rattle.processor.specs.declared.draw.Drawn.{Drawn}
-use Rattle.processor.specs.declared.answer.Drawing.{Drawing}
-use Rattle.processor.specs.declared.answer.Drawing.the-variants.{Accepted, WrongMemory, WrongRom, WrongPicture, NotBuilt, LowOrigin}
-use Rattle.processor.specs.States.{tgsOf, patOf, dorOf, rorOf, withMarks, noneMarked}
-
--- what the drawing takes of the registers and the phase
-abbrev pub settingsOf : Processor → Settings
-settingsOf p = record { pat = patOf p; dor = dorOf p; ror = rorOf p; phase = p .phase }
+use Rattle.processor.specs.States.{shownOf, withMarks}
 
 -- what a draw leaves, and its answer
 pub record DrawOutcome : Type 0 where
@@ -36,16 +34,16 @@ drawOutcomeOf r picture = drawOutcome (r .processor) picture (r .answer)
 -- An accepted draw redraws the marked rows and no other byte, returns their number and clears the marks
 unfoldable pub drawnPage : Processor → List ℕ → List ℕ → List ℕ → DrawOutcome
 drawnPage p m rom picture =
-    drawOutcome (withMarks p noneMarked) (redrawn (p .marks) picture m rom (settingsOf p)) (Accepted (markedRows (p .marks) 25))
+    drawOutcome (withMarks p noneMarked) (redrawn (p .marks) picture m rom (shownOf p)) (Accepted (markedRows (p .marks) 25))
 
 -- draw is checked 1, 5, 6, 7, 8
 unfoldable pub drawn : Processor → List ℕ → List ℕ → List ℕ → DrawOutcome
 drawn p m rom picture =
-    pick (eqb (length m) 16384)
-    (pick (eqb (length rom) 6400)
-    (pick (eqb (length picture) 40000)
-    (pick (refused7 (tgsOf p) (patOf p)) (drawOutcome p picture NotBuilt)
-    (pick (refused8 (rorOf p)) (drawOutcome p picture LowOrigin)
+    pick (eqb (length m) memoryBytes)
+    (pick (eqb (length rom) romBytes)
+    (pick (eqb (length picture) (pictureBytes columnBytes))
+    (pick (refused7 (shownOf p)) (drawOutcome p picture NotBuilt)
+    (pick (refused8 (shownOf p)) (drawOutcome p picture LowOrigin)
     (drawnPage p m rom picture)))
     (drawOutcome p picture WrongPicture))
     (drawOutcome p picture WrongRom))

@@ -1,5 +1,3 @@
-pub mod Answers
-pub mod Commands
 pub mod States
 pub mod Pointers
 pub mod Bytes

@@ -6,31 +6,20 @@ use mathlib.Core.List.{List, [], _∷_}
 use lib.Dec.{eqb}
 use lib.ListN.{getD, set}
 use Rattle.basics.specs.Choice.{pick, oneIf}
-use Rattle.basics.specs.Parts.{table}
+use Rattle.shown.specs.declared.Shown.{Shown}
+use Rattle.page.specs.Marks.{allMarked}
 use Rattle.processor.specs.declared.state.Processor.{Processor}
 
 -- the registers by name; R0 written is the command
 abbrev pub registerOf : Processor → ℕ → ℕ
 registerOf p n = getD (p .registers) n 0
 
-abbrev pub tgsOf : Processor → ℕ
-tgsOf p = getD (p .indirect) 1 0
+-- what a page is drawn by: the indirect registers by r (TGS 1, MAT 2, PAT 3, DOR 4, ROR 7), and the phase
+abbrev pub shownBy : List ℕ → ℕ → Shown
+shownBy i phase = record { tgs = getD i 1 0; mat = getD i 2 0; pat = getD i 3 0; dor = getD i 4 0; ror = getD i 7 0; phase = phase }
 
-abbrev pub patOf : Processor → ℕ
-patOf p = getD (p .indirect) 3 0
-
-abbrev pub dorOf : Processor → ℕ
-dorOf p = getD (p .indirect) 4 0
-
-abbrev pub rorOf : Processor → ℕ
-rorOf p = getD (p .indirect) 7 0
-
--- every row marked; none
-abbrev pub allMarked : List Bool
-allMarked = table (λ r. true) 25
-
-abbrev pub noneMarked : List Bool
-noneMarked = table (λ r. false) 25
+abbrev pub shownOf : Processor → Shown
+shownOf p = shownBy (p .indirect) (p .phase)
 
 -- Power-up: all registers and both LX bits 0, command 91 hex, phase 0, every row marked
 unfoldable pub powerUp : Processor
@@ -86,10 +75,10 @@ indirectWritten p r =
     withIndirect p (set (p .indirect) r (registerOf p 1))
     (pick (not (eqb (getD (p .indirect) r 0) (registerOf p 1)) && not (eqb r 2)) allMarked (p .marks))
 
--- the state with the private memory
-pub record Kept : Type 0 where
+-- the chip: the state with the private memory
+pub record Chip : Type 0 where
   pub processor : Processor
   pub memory : List ℕ
 
-abbrev pub kept : Processor → List ℕ → Kept
-kept p m = record { processor = p; memory = m }
+abbrev pub chip : Processor → List ℕ → Chip
+chip p m = record { processor = p; memory = m }

@@ -2,51 +2,27 @@
 ghost use mathlib.Core.Path.{_≡_};
 ghost use mathlib.Core.Bool.{true, false};
 ghost use lib.ListN.{length};
+ghost use Rattle.address.specs.Boards.{memoryBytes};
 ghost use Rattle.address.specs.Triples.{legal};
-ghost use Rattle.processor.specs.States.{kept};
+ghost use Rattle.processor.specs.States.{chip};
 ghost use Rattle.processor.specs.Pointers.{pointerOf};
-ghost use Rattle.processor.specs.Bytes.{loaded, stored, blockAt, octet, code};
+ghost use Rattle.processor.specs.Bytes.{stored};
 use crate::pointer::increment_if;
 use crate::pointer::pointer;
 use crate::state::Processor;
-use address::place::block;
+use address::byte::load;
+use address::place::block_at;
 use address::place::place;
 use address::triple::Triple;
-use reading::shown::Shown;
 use reading::store::store_marks;
-
-// The triple in the block k after its own.
-pub fn block_at(at: Triple, k: u8) -> Triple
-    ensures { λ r. ⌜ r ≡ blockAt at k ⌝ }
-{
-    Triple {
-        x: at.x,
-        y: at.y,
-        z: block(at.z, k),
-    }
-}
-
-pub fn load(memory: &[u8], at: Triple) -> u8
-    requires { ⌜ (length (now memory) ≡ 16384) × (legal at ≡ true) ⌝ }
-    ensures { λ r. ⌜ r ≡ loaded at (now (memory .entry)) ⌝ }
-{
-    let p = place(at);
-    memory[p]
-}
 
 // A store marks by the lists just before it.
 pub fn store(mut p: Processor, memory: &mut [u8], at: Triple, value: u8) -> Processor
-    requires { ⌜ (length (now memory) ≡ 16384) × (legal at ≡ true) ⌝ }
-    ensures { λ r. ⌜ kept r (now (memory .exit)) ≡ stored at value (kept p (now (memory .entry))) ⌝ }
+    requires { ⌜ (length (now memory) ≡ memoryBytes) × (legal at ≡ true) ⌝ }
+    ensures { λ r. ⌜ chip r (now (memory .exit)) ≡ stored at value (chip p (now (memory .entry))) ⌝ }
 {
-    let shown = Shown {
-        tgs: p.indirect[1],
-        pat: p.indirect[3],
-        dor: p.indirect[4],
-        ror: p.indirect[7],
-    };
     let before = p.marks;
-    let after = store_marks(before, shown, memory, at, value);
+    let after = store_marks(before, p.shown(), memory, at, value);
     let here = place(at);
     memory[here] = value;
     p.marks = after;
@@ -54,15 +30,15 @@ pub fn store(mut p: Processor, memory: &mut [u8], at: Triple, value: u8) -> Proc
 }
 
 // OCT: R1 with one byte.
-pub fn one_byte(
+pub fn oct(
     p: Processor,
     memory: &mut [u8],
     reads: bool,
     auxiliary: bool,
     increments: bool,
 ) -> Processor
-    requires { ⌜ (length (now memory) ≡ 16384) × (legal (pointerOf auxiliary p) ≡ true) ⌝ }
-    ensures { λ r. ⌜ kept r (now (memory .exit)) ≡ octet reads auxiliary increments (kept p (now (memory .entry))) ⌝ }
+    requires { ⌜ (length (now memory) ≡ memoryBytes) × (legal (pointerOf auxiliary p) ≡ true) ⌝ }
+    ensures { λ r. ⌜ chip r (now (memory .exit)) ≡ Rattle.processor.specs.Bytes.oct reads auxiliary increments (chip p (now (memory .entry))) ⌝ }
 {
     let at = pointer(p, auxiliary);
     let free = p.cleared();
@@ -77,7 +53,7 @@ pub fn one_byte(
 
 // R1, R2, R3 from the C, B, A bytes.
 fn code_read(p: Processor, memory: &[u8], at: Triple) -> Processor
-    requires { ⌜ (length (now memory) ≡ 16384) × (legal at ≡ true) ⌝ }
+    requires { ⌜ (length (now memory) ≡ memoryBytes) × (legal at ≡ true) ⌝ }
     ensures { λ r. ⌜ r ≡ Rattle.processor.specs.Bytes.codeRead at p (now (memory .entry)) ⌝ }
 {
     let c = load(memory, block_at(at, 0));
@@ -90,8 +66,8 @@ fn code_read(p: Processor, memory: &[u8], at: Triple) -> Processor
 
 // R1, R2, R3 to the C, B, A bytes, in that order.
 fn code_stored(p: Processor, memory: &mut [u8], at: Triple) -> Processor
-    requires { ⌜ (length (now memory) ≡ 16384) × (legal at ≡ true) ⌝ }
-    ensures { λ r. ⌜ kept r (now (memory .exit)) ≡ Rattle.processor.specs.Bytes.codeStored at (kept p (now (memory .entry))) ⌝ }
+    requires { ⌜ (length (now memory) ≡ memoryBytes) × (legal at ≡ true) ⌝ }
+    ensures { λ r. ⌜ chip r (now (memory .exit)) ≡ Rattle.processor.specs.Bytes.codeStored at (chip p (now (memory .entry))) ⌝ }
 {
     let c = p.registers[1];
     let b = p.registers[2];
@@ -102,9 +78,9 @@ fn code_stored(p: Processor, memory: &mut [u8], at: Triple) -> Processor
 }
 
 // KRF: three code bytes at the main pointer.
-pub fn three_bytes(p: Processor, memory: &mut [u8], reads: bool, increments: bool) -> Processor
-    requires { ⌜ (length (now memory) ≡ 16384) × (legal (pointerOf false p) ≡ true) ⌝ }
-    ensures { λ r. ⌜ kept r (now (memory .exit)) ≡ code reads increments (kept p (now (memory .entry))) ⌝ }
+pub fn krf(p: Processor, memory: &mut [u8], reads: bool, increments: bool) -> Processor
+    requires { ⌜ (length (now memory) ≡ memoryBytes) × (legal (pointerOf false p) ≡ true) ⌝ }
+    ensures { λ r. ⌜ chip r (now (memory .exit)) ≡ Rattle.processor.specs.Bytes.krf reads increments (chip p (now (memory .entry))) ⌝ }
 {
     let at = pointer(p, false);
     let free = p.cleared();

@@ -1,12 +1,12 @@
 // The draw.
 ghost use mathlib.Core.Path.{_≡_};
 ghost use Rattle.processor.specs.Draws.{drawOutcomeOf, drawn};
-use crate::answer::Drawing;
 use crate::state::Processor;
+use address::board::MEMORY_BYTES;
+use command::answer::Drawing;
 use picture::redraw::redraw;
-use picture::settings::Settings;
-use reading::refuse::is_refused_7;
-use reading::refuse::is_refused_8;
+use shown::length::PICTURE_BYTES;
+use shown::length::ROM_BYTES;
 
 // The state after a draw, with the answer.
 pub struct Drawn {
@@ -29,29 +29,24 @@ impl Processor {
     pub fn draw(mut self, memory: &[u8], rom: &[u8], picture: &mut [u8]) -> Drawn
         ensures { λ r. ⌜ drawOutcomeOf r (now (picture .exit)) ≡ drawn self (now (memory .entry)) (now (rom .entry)) (now (picture .entry)) ⌝ }
     {
-        if memory.len() != 16384 {
+        if memory.len() != MEMORY_BYTES {
             return refused(self, Drawing::WrongMemory);
         }
-        if rom.len() != 6400 {
+        if rom.len() != ROM_BYTES {
             return refused(self, Drawing::WrongRom);
         }
-        if picture.len() != 40000 {
+        if picture.len() != PICTURE_BYTES {
             return refused(self, Drawing::WrongPicture);
         }
-        if is_refused_7(self.indirect[1], self.indirect[3]) {
+        let shown = self.shown();
+        if shown.is_refused_7() {
             return refused(self, Drawing::NotBuilt);
         }
-        if is_refused_8(self.indirect[7]) {
+        if shown.is_refused_8() {
             return refused(self, Drawing::LowOrigin);
         }
-        let settings = Settings {
-            pat: self.indirect[3],
-            dor: self.indirect[4],
-            ror: self.indirect[7],
-            phase: self.phase,
-        };
         let marks = self.marks;
-        let rows = redraw(picture, memory, rom, settings, marks);
+        let rows = redraw(picture, memory, rom, shown, marks);
         self.marks = [false; 25];
         Drawn {
             processor: self,

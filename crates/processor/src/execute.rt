@@ -1,18 +1,20 @@
 // The execution of a command, after the access that asked for it.
 ghost use mathlib.Core.Path.{_≡_};
-ghost use mathlib.Core.Bool.{Bool};
+ghost use mathlib.Core.Bool.{false};
 ghost use Prim.Native.Nat.{_<_};
 ghost use lib.ListN.{length};
-ghost use Rattle.processor.specs.States.{kept};
-ghost use Rattle.processor.specs.Access.{outcomeOf, ran, executed, Asked};
-use crate::answer::Answer;
-use crate::byte::one_byte;
-use crate::byte::three_bytes;
-use crate::command::Command;
-use crate::command::command_of;
+ghost use Rattle.address.specs.Boards.{memoryBytes};
+ghost use Rattle.command.specs.Commands.{Asked};
+ghost use Rattle.processor.specs.States.{chip};
+ghost use Rattle.processor.specs.Access.{outcomeOf, isUnlisted, isAstray, ran, executed};
+use crate::byte::krf;
+use crate::byte::oct;
 use crate::pointer::pointer;
 use crate::state::Processor;
 use address::triple::is_legal;
+use command::Command;
+use command::answer::Answer;
+use command::command_of;
 
 // The state after an access, with the answer.
 pub struct Answered {
@@ -30,60 +32,79 @@ fn indirect(p: Processor, r: u8, reads: bool) -> Processor
     p.indirect_written(r)
 }
 
-// A command, after the access that gave the value.
-pub fn run(p: Processor, memory: &mut [u8], command: Command, value: u8) -> Answered
-    requires { ⌜ (length (now memory) ≡ 16384) × Asked command ⌝ }
-    ensures { λ r. ⌜ outcomeOf r (now (memory .exit)) ≡ ran command value (kept p (now (memory .entry))) ⌝ }
+fn is_unlisted(command: Command) -> bool
+    ensures { λ r. ⌜ r ≡ isUnlisted command ⌝ }
 {
     match command {
-        Command::Nop => Answered {
-            processor: p,
-            answer: Answer::Accepted(value),
-        },
-        Command::Ind(r, reads) => Answered {
-            processor: indirect(p, r, reads),
-            answer: Answer::Accepted(value),
-        },
-        Command::Krf(reads, increments) => {
-            if is_legal(pointer(p, false)) {
-                return Answered {
-                    processor: three_bytes(p, memory, reads, increments),
-                    answer: Answer::Accepted(value),
-                };
-            }
-            Answered {
-                processor: p,
-                answer: Answer::BadPointer(value),
-            }
-        }
+        Command::Nop => false,
+        Command::Ind(_, _) => false,
+        Command::Krf(_, _) => false,
+        Command::Oct(_, _, _) => false,
+        Command::NotListed => true,
+    }
+}
+
+// The command's pointer is not legal.
+fn is_astray(command: Command, p: Processor) -> bool
+    ensures { λ r. ⌜ r ≡ isAstray command p ⌝ }
+{
+    match command {
+        Command::Nop => false,
+        Command::Ind(_, _) => false,
+        Command::Krf(_, _) => !is_legal(pointer(p, false)),
+        Command::Oct(_, auxiliary, _) => !is_legal(pointer(p, auxiliary)),
+        Command::NotListed => false,
+    }
+}
+
+// What a command does where nothing refuses it.
+fn effect(p: Processor, memory: &mut [u8], command: Command) -> Processor
+    requires { ⌜ (length (now memory) ≡ memoryBytes) × Asked command × (isAstray command p ≡ false) ⌝ }
+    ensures { λ r. ⌜ chip r (now (memory .exit)) ≡ Rattle.processor.specs.Access.effect command (chip p (now (memory .entry))) ⌝ }
+{
+    match command {
+        Command::Nop => p,
+        Command::Ind(r, reads) => indirect(p, r, reads),
+        Command::Krf(reads, increments) => krf(p, memory, reads, increments),
         Command::Oct(reads, auxiliary, increments) => {
-            if is_legal(pointer(p, auxiliary)) {
-                return Answered {
-                    processor: one_byte(p, memory, reads, auxiliary, increments),
-                    answer: Answer::Accepted(value),
-                };
-            }
-            Answered {
-                processor: p,
-                answer: Answer::BadPointer(value),
-            }
+            oct(p, memory, reads, auxiliary, increments)
         }
-        Command::NotListed => Answered {
+        Command::NotListed => p,
+    }
+}
+
+// A command, after the access that gave the value. What is refused is handed back as it was.
+fn run_command(p: Processor, memory: &mut [u8], command: Command, value: u8) -> Answered
+    requires { ⌜ (length (now memory) ≡ memoryBytes) × Asked command ⌝ }
+    ensures { λ r. ⌜ outcomeOf r (now (memory .exit)) ≡ ran command value (chip p (now (memory .entry))) ⌝ }
+{
+    if is_unlisted(command) {
+        return Answered {
             processor: p,
             answer: Answer::NotListed(value),
-        },
+        };
+    }
+    if is_astray(command, p) {
+        return Answered {
+            processor: p,
+            answer: Answer::BadPointer(value),
+        };
+    }
+    Answered {
+        processor: effect(p, memory, command),
+        answer: Answer::Accepted(value),
     }
 }
 
 // The command, if bit 3 of the address asks for it.
 pub fn execute(p: Processor, memory: &mut [u8], address: u8, value: u8) -> Answered
-    requires { ⌜ length (now memory) ≡ 16384 ⌝ }
-    ensures { λ r. ⌜ outcomeOf r (now (memory .exit)) ≡ executed address value (kept p (now (memory .entry))) ⌝ }
+    requires { ⌜ length (now memory) ≡ memoryBytes ⌝ }
+    ensures { λ r. ⌜ outcomeOf r (now (memory .exit)) ≡ executed address value (chip p (now (memory .entry))) ⌝ }
 {
     if address / 8 % 2 == 1 {
         let registers = p.registers;
         let command = command_of(registers[0]);
-        return run(p, memory, command, value);
+        return run_command(p, memory, command, value);
     }
     Answered {
         processor: p,

@@ -1,7 +1,8 @@
 // The processor's state, and its registers.
 ghost use mathlib.Core.Path.{_≡_};
 ghost use Prim.Native.Nat.{_<_};
-ghost use Rattle.processor.specs.States.{powerUp, statusOf, withRegister, registerRead, cleared, indirectRead, indirectWritten};
+ghost use Rattle.processor.specs.States.{powerUp, statusOf, withRegister, registerRead, cleared, indirectRead, indirectWritten, shownOf};
+use shown::Shown;
 
 pub struct Processor {
     // R0 is the command.
@@ -101,5 +102,19 @@ impl Processor {
         }
         self.marks = [true; 25];
         self
+    }
+
+    // What a page is drawn by.
+    pub fn shown(self) -> Shown
+        ensures { λ r. ⌜ r ≡ shownOf self ⌝ }
+    {
+        Shown {
+            tgs: self.indirect[1],
+            mat: self.indirect[2],
+            pat: self.indirect[3],
+            dor: self.indirect[4],
+            ror: self.indirect[7],
+            phase: self.phase,
+        }
     }
 }

@@ -43,3 +43,8 @@ module _ (shown : Shown) where
     pub draw-asked : (eight : Bool) → eight ≡ refused8 shown → seven ≡ false → not eight ≡ canDraw shown
     unfolding canDraw
     draw-asked eight l e = rw (sym learnt ∙ e, l)
+
+-- what decides whether a draw would get 7 or 8
+pub can-draw-same : (a b : Shown) → a .tgs ≡ b .tgs → a .pat ≡ b .pat → a .ror ≡ b .ror → canDraw a ≡ canDraw b
+unfolding refused7 refused8 canDraw
+can-draw-same a b tgs pat ror = rw (tgs, pat, ror)

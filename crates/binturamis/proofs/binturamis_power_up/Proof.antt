@@ -1,5 +1,5 @@
 use mathlib.Core.Path.{ap, _∙_}
-use Rattle.binturamis.specs.Layouts.{packed}
+use Rattle.packing.specs.Layouts.{packed}
 use borrow.Author.Needs.{needs}
 use Rattle.binturamis.proofs.binturamis_power_up.Statement.{statement}
 use Rattle.binturamis.proofs.binturamis_power_up.Tie as tie

@@ -1,5 +1,5 @@
 use mathlib.Core.Path.{ap, _∙_}
-use Rattle.binturamis.specs.Reports.{reported}
+use Rattle.packing.specs.Reports.{reported}
 use borrow.Author.Needs.{needs}
 use Rattle.binturamis.proofs.binturamis_state.Statement.{statement}
 use Rattle.binturamis.proofs.binturamis_state.Tie as tie

@@ -1,5 +1,5 @@
-use Rattle.picture.proofs.Drawn.{line-long}
-use Rattle.picture.specs.Lines.{lineOn}
+use Rattle.lines.proofs.Drawn.{line-long}
+use Rattle.lines.specs.HowLines.{lineOn}
 use Rattle.basics.proofs.Filled.{front-none, front-lent, front-end, part-length}
 use Rattle.basics.specs.Parts.{joined}
 use lib.ListN.{length, take}
@@ -11,13 +11,13 @@ use Rattle.picture.proofs.row.draw_lines.Statement.{statement}
 use Rattle.picture.proofs.row.draw_lines.Tie as tie
 
 abbrev Inv-loop : tie.InvT-loop
-Inv-loop part₀ cells lowers tens none left right both n₀ part n = (n ≤ 10) × (length part ≡ 1600) × (take (160 * n) part ≡ joined (lineOn cells lowers tens none left right both) n)
+Inv-loop part₀ cells lowers tens pairs n₀ part n = (n ≤ 10) × (length part ≡ 1600) × (take (160 * n) part ≡ joined (lineOn cells lowers tens pairs) n)
 
 abbrev μ-loop : tie.MeasureT-loop
-μ-loop part₀ cells lowers tens none left right both n₀ part n = 10 - n
+μ-loop part₀ cells lowers tens pairs n₀ part n = 10 - n
 
 loop-holds : tie.Need-loop-holds Inv-loop μ-loop
-loop-holds c = (omega arith, c .before .before .before .before .before .pre, front-none _)
+loop-holds c = (omega arith, c .before .pre, front-none _)
 
 line-requires : tie.Need-line-requires Inv-loop μ-loop
 line-requires c κs = search needs
@@ -52,11 +52,11 @@ loop-less c = omega arith
 loop-again : tie.Need-loop-again Inv-loop μ-loop
 loop-again c = let k = c .before .before in
     let d = k .before .before in
-    let l = d .before .before .before .before .before .before .loop in (
+    let l = d .before .before .loop in (
       omega arith,
       search (part-length, needs),
       front-lent 160 _ (l .part) (k .copy-line .last .0) (d .line .result) (l .n) 10 (omega arith) (l .inv .1) (l .inv .2) (k .copy-line .ensures) (d .line .ensures)
-          (λ j. line-long _ _ _ _ _ _ _ j),
+          (λ j. line-long _ _ _ _ j),
     )
 
 same-length : tie.Need-same-length Inv-loop μ-loop

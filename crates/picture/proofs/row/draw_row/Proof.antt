@@ -1,12 +1,8 @@
 use native.Mathlib.Omega.{arith}
 use Rattle.picture.proofs.Drawn.{drawn-row}
-use mathlib.Core.Path.{_∙_}
 use borrow.Author.Needs.{needs}
 use Rattle.picture.proofs.row.draw_row.Statement.{statement}
 use Rattle.picture.proofs.row.draw_row.Tie as tie
-
-lower-halves-after-requires : tie.Need-lower-halves-after-requires
-lower-halves-after-requires c κs = search needs
 
 right-halves-requires : tie.Need-right-halves-requires
 right-halves-requires c κs = search needs
@@ -25,22 +21,18 @@ same-length c = search needs
 
 returns : tie.Need-returns
 returns c = let d = c .before .before in
-    let p = d .before .before .before in
+    let p = d .before .before .before .before in
     let t = p .before in
-    let r = t .before in
-    let h = r .before in
-    let k = h .before in (
-      h .lower-halves-after .ensures,
-      d .draw-lines .ensures
-          ∙ drawn-row _ _ _ _ (λ i. omega (arith, k .before .shared-slice-known .given i)) (λ i. omega (arith, k .shared-slice-known2 .given i)) _ _ _ _ _ (k .before .before .before .pre .3) (h .lower-halves-after .ensures) (r .right-halves .ensures) (t .tens-of .ensures)
-          (p .pairs-of .ensures),
-    )
+    let h = t .before in
+    let k = h .before in
+    let a = k .before .before .before .args in
+    drawn-row (a .memory .now) (a .rom .now) (λ i. omega (arith, k .before .shared-slice-known .given i)) (λ i. omega (arith, k .shared-slice-known2 .given i))
+    (a .shown) (a .cells) (a .lowers) _ (h .right-halves .ensures) _ _ _ (t .tens-of .ensures) (p .pairs-of .ensures) (d .draw-lines .ensures)
 
 pub draw-row-spec : {M : Type 1} → statement M
 draw-row-spec =
     tie.close
     (tie.spec
-    lower-halves-after-requires
     right-halves-requires
     tens-of-requires
     pairs-of-requires

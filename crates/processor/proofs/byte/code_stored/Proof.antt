@@ -1,4 +1,5 @@
-use Rattle.processor.proofs.Laws.{legal-block-at}
+use Rattle.address.specs.Boards.{boardDistricts}
+use Rattle.address.proofs.Places.{legal-block-at}
 use Rattle.processor.specs.Bytes.{codeStored}
 use mathlib.Core.Path.{_∙_}
 use borrow.Author.Needs.{needs}
@@ -18,21 +19,21 @@ block-at-requires : tie.Need-block-at-requires
 block-at-requires c κs = search needs
 
 store-requires : tie.Need-store-requires
-store-requires c κs = let s = c .before .before .before .before .before .before in (search needs, legal-block-at _ _ _ (c .block-at .ensures) (s .pre .1))
+store-requires c κs = let s = c .before .before .before .before .before .before in (search needs, legal-block-at boardDistricts _ _ _ (c .block-at .ensures) (s .pre .1))
 
 block-at-requires-2 : tie.Need-block-at-requires-2
 block-at-requires-2 c κs = search needs
 
 store-requires-2 : tie.Need-store-requires-2
 store-requires-2 c κs = let s = c .before .before .before .before .before .before .before .before .before .before .before in
-    (search needs, legal-block-at _ _ _ (c .block-at2 .ensures) (s .pre .1))
+    (search needs, legal-block-at boardDistricts _ _ _ (c .block-at2 .ensures) (s .pre .1))
 
 block-at-requires-3 : tie.Need-block-at-requires-3
 block-at-requires-3 c κs = search needs
 
 store-requires-3 : tie.Need-store-requires-3
 store-requires-3 c κs = let s = c .before .before .before .before .before .before .before .before .before .before .before .before .before .before .before .before in
-    (search needs, legal-block-at _ _ _ (c .block-at3 .ensures) (s .pre .1))
+    (search needs, legal-block-at boardDistricts _ _ _ (c .block-at3 .ensures) (s .pre .1))
 
 same-length : tie.Need-same-length
 same-length c = search needs

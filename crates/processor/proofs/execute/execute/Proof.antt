@@ -1,4 +1,4 @@
-use Rattle.processor.proofs.Laws.{asked}
+use Rattle.command.proofs.Asked.{asked}
 use Rattle.processor.specs.Access.{executed}
 use borrow.Author.Tests.{eq-eqb, ne-eqb}
 use borrow.Author.Needs.{needs}
@@ -11,8 +11,8 @@ array-read-command-of c = search needs
 command-of-requires : tie.Need-command-of-requires
 command-of-requires c κs = search needs
 
-run-requires : tie.Need-run-requires
-run-requires c κs = (search needs, rw (c .before .command-of .ensures) (asked _))
+run-command-requires : tie.Need-run-command-requires
+run-command-requires c κs = (search needs, rw (c .before .command-of .ensures) (asked _))
 
 same-length : tie.Need-same-length
 same-length c = search needs
@@ -21,7 +21,7 @@ returns : tie.Need-returns
 unfolding executed
 returns c = let r = c .before .before in
     let k = r .before .before in
-    rw (eq-eqb _ _ (k .before .before .if1 .taken), ← k .command-of .ensures) (r .run .ensures)
+    rw (eq-eqb _ _ (k .before .before .if1 .taken), ← k .command-of .ensures) (r .run-command .ensures)
 
 returns-2 : tie.Need-returns-2
 unfolding executed
@@ -30,4 +30,4 @@ returns-2 c = rw (ne-eqb _ _ (c .if1 .left))
 pub execute-spec : {M : Type 1} → statement M
 execute-spec =
     tie.close
-    (tie.spec array-read-command-of command-of-requires run-requires same-length returns returns-2)
+    (tie.spec array-read-command-of command-of-requires run-command-requires same-length returns returns-2)

@@ -1,7 +1,8 @@
 use Rattle.processor.specs.Draws.{drawn, drawnPage}
 use Rattle.basics.specs.Parts.{joined}
+use Rattle.shown.specs.Refusals.{refused7, refused8}
 use borrow.Author.Tests.{eq-eqb, ne-eqb}
-use mathlib.Core.Path.{sym, _∙_}
+use mathlib.Core.Path.{sym, ap, _∙_}
 use borrow.Author.Needs.{needs}
 use Rattle.processor.proofs.state.Processor.draw.Statement.{statement}
 use Rattle.processor.proofs.state.Processor.draw.Tie as tie
@@ -29,11 +30,8 @@ unfolding drawn
 returns-3 c = let t = c .before in
     rw (eq-eqb _ _ (t .before .before .if1 .left), eq-eqb _ _ (t .before .if2 .left), ne-eqb _ _ (t .if3 .taken), c .refused3 .ensures)
 
-element-copy-out-is-refused-7 : tie.Need-element-copy-out-is-refused-7
-element-copy-out-is-refused-7 c = search needs
-
-element-copy-out-is-refused-7-2 : tie.Need-element-copy-out-is-refused-7-2
-element-copy-out-is-refused-7-2 c = search needs
+shown-requires : tie.Need-shown-requires
+shown-requires c κs = search needs
 
 is-refused-7-requires : tie.Need-is-refused-7-requires
 is-refused-7-requires c κs = search needs
@@ -45,11 +43,9 @@ returns-4 : tie.Need-returns-4
 unfolding drawn
 returns-4 c = let t = c .before in
     let q = t .before in
-    let e = q .before .before .before in
-    rw (eq-eqb _ _ (e .before .before .if1 .left), eq-eqb _ _ (e .before .if2 .left), eq-eqb _ _ (e .if3 .left), sym (q .is-refused-7 .ensures) ∙ t .if4 .taken, c .refused4 .ensures)
-
-element-copy-out-is-refused-8 : tie.Need-element-copy-out-is-refused-8
-element-copy-out-is-refused-8 c = search needs
+    let h = q .before in
+    let e = h .before in
+    rw (eq-eqb _ _ (e .before .before .if1 .left), eq-eqb _ _ (e .before .if2 .left), eq-eqb _ _ (e .if3 .left), sym (q .is-refused-7 .ensures ∙ ap refused7 (h .shown .ensures)) ∙ t .if4 .taken, c .refused4 .ensures)
 
 is-refused-8-requires : tie.Need-is-refused-8-requires
 is-refused-8-requires c κs = search needs
@@ -61,19 +57,11 @@ returns-5 : tie.Need-returns-5
 unfolding drawn
 returns-5 c = let t = c .before in
     let o = t .before in
-    let g = o .before .before in
+    let g = o .before in
     let q = g .before in
-    let e = q .before .before .before in
-    rw (eq-eqb _ _ (e .before .before .if1 .left), eq-eqb _ _ (e .before .if2 .left), eq-eqb _ _ (e .if3 .left), sym (q .is-refused-7 .ensures) ∙ g .if4 .left, sym (o .is-refused-8 .ensures) ∙ t .if5 .taken, c .refused5 .ensures)
-
-element-copy-out-t23 : tie.Need-element-copy-out-t23
-element-copy-out-t23 c = search needs
-
-element-copy-out-t20 : tie.Need-element-copy-out-t20
-element-copy-out-t20 c = search needs
-
-element-copy-out-t37 : tie.Need-element-copy-out-t37
-element-copy-out-t37 c = search needs
+    let h = q .before in
+    let e = h .before in
+    rw (eq-eqb _ _ (e .before .before .if1 .left), eq-eqb _ _ (e .before .if2 .left), eq-eqb _ _ (e .if3 .left), sym (q .is-refused-7 .ensures ∙ ap refused7 (h .shown .ensures)) ∙ g .if4 .left, sym (o .is-refused-8 .ensures ∙ ap refused8 (h .shown .ensures)) ∙ t .if5 .taken, c .refused5 .ensures)
 
 redraw-requires : tie.Need-redraw-requires
 redraw-requires c κs = search needs
@@ -84,12 +72,13 @@ same-length c = search needs
 returns-6 : tie.Need-returns-6
 unfolding drawn drawnPage joined
 returns-6 c = let r = c .before .before .before in
-    let t = r .before .before .before .before .before .before in
+    let t = r .before .before .before in
     let o = t .before in
-    let g = o .before .before in
+    let g = o .before in
     let q = g .before in
-    let e = q .before .before .before in
-    rw (eq-eqb _ _ (e .before .before .if1 .left), eq-eqb _ _ (e .before .if2 .left), eq-eqb _ _ (e .if3 .left), sym (q .is-refused-7 .ensures) ∙ g .if4 .left, sym (o .is-refused-8 .ensures) ∙ t .if5 .left, r .redraw .ensures .0, r .redraw .ensures .1)
+    let h = q .before in
+    let e = h .before in
+    rw (eq-eqb _ _ (e .before .before .if1 .left), eq-eqb _ _ (e .before .if2 .left), eq-eqb _ _ (e .if3 .left), sym (q .is-refused-7 .ensures ∙ ap refused7 (h .shown .ensures)) ∙ g .if4 .left, sym (o .is-refused-8 .ensures ∙ ap refused8 (h .shown .ensures)) ∙ t .if5 .left, ← h .shown .ensures, r .redraw .ensures .0, r .redraw .ensures .1)
 
 pub draw-spec : {M : Type 1} → statement M
 draw-spec =
@@ -101,18 +90,13 @@ draw-spec =
     returns-2
     refused-requires-3
     returns-3
-    element-copy-out-is-refused-7
-    element-copy-out-is-refused-7-2
+    shown-requires
     is-refused-7-requires
     refused-requires-4
     returns-4
-    element-copy-out-is-refused-8
     is-refused-8-requires
     refused-requires-5
     returns-5
-    element-copy-out-t23
-    element-copy-out-t20
-    element-copy-out-t37
     redraw-requires
     same-length
     returns-6)

@@ -1,0 +1,32 @@
+-- Each byte names a command that asks for a register that there is.
+-- Assumes nothing.
+use Prim.Native.Nat.{ℕ, _-_}
+use mathlib.Core.Path.{_≡_, refl}
+use mathlib.Core.Bool.{Bool, true, false}
+use native.Mathlib.Omega.{arith}
+use lib.Dec.{leb, eqb}
+use borrow.Author.Tests.{leb-true}
+use Rattle.basics.specs.Choice.{pick}
+use Rattle.basics.proofs.Choice.{and-right}
+use Rattle.command.specs.declared.Command.{Command}
+use Rattle.command.specs.declared.Command.the-variants.{Nop, Ind, Krf, Oct, NotListed}
+use Rattle.command.specs.Commands.{between, commandOf, Asked}
+
+asked-pick : (t : Bool) (x y : Command) → (t ≡ true → Asked x) → Asked y → Asked (pick t x y)
+asked-pick true x y f g = f refl
+asked-pick false x y f g = g
+
+pub asked : (b : ℕ) → Asked (commandOf b)
+unfolding commandOf
+asked b =
+    asked-pick (between 0x90 0x91 b) Nop _ (λ t. tt)
+    (asked-pick (between 0x81 0x84 b) (Ind (b - 0x80) false) _ (λ t. omega (arith, leb-true b 0x84 (and-right (leb 0x81 b) _ t)))
+    (asked-pick (eqb b 0x87) (Ind 7 false) _ (λ t. omega arith)
+    (asked-pick (between 0x89 0x8C b) (Ind (b - 0x88) true) _ (λ t. omega (arith, leb-true b 0x8C (and-right (leb 0x89 b) _ t)))
+    (asked-pick (eqb b 0x8F) (Ind 7 true) _ (λ t. omega arith)
+    (asked-pick (between 0x00 0x01 b) (Krf false (eqb b 0x01)) _ (λ t. tt)
+    (asked-pick (between 0x08 0x09 b) (Krf true (eqb b 0x09)) _ (λ t. tt)
+    (asked-pick (between 0x30 0x31 b) (Oct false false (eqb b 0x31)) _ (λ t. tt)
+    (asked-pick (between 0x34 0x35 b) (Oct false true (eqb b 0x35)) _ (λ t. tt)
+    (asked-pick (between 0x38 0x39 b) (Oct true false (eqb b 0x39)) _ (λ t. tt)
+    (asked-pick (between 0x3C 0x3D b) (Oct true true (eqb b 0x3D)) NotListed (λ t. tt) tt))))))))))

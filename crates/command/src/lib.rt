@@ -1,0 +1,35 @@
+// The command that a byte names, and the answers by number.
+pub mod answer;
+
+ghost use mathlib.Core.Path.{_≡_};
+ghost use Rattle.command.specs.Commands.{commandOf};
+
+pub enum Command {
+    Nop,
+    // r, and whether R1 is loaded from the register.
+    Ind(u8, bool),
+    // Whether it reads, and whether it increments.
+    Krf(bool, bool),
+    // Whether it reads, whether by the auxiliary pointer, and whether it increments.
+    Oct(bool, bool, bool),
+    NotListed,
+}
+
+pub fn command_of(byte: u8) -> Command
+    ensures { λ r. ⌜ r ≡ commandOf byte ⌝ }
+{
+    match byte {
+        0x00..=0x01 => Command::Krf(false, byte == 0x01),
+        0x08..=0x09 => Command::Krf(true, byte == 0x09),
+        0x30..=0x31 => Command::Oct(false, false, byte == 0x31),
+        0x34..=0x35 => Command::Oct(false, true, byte == 0x35),
+        0x38..=0x39 => Command::Oct(true, false, byte == 0x39),
+        0x3C..=0x3D => Command::Oct(true, true, byte == 0x3D),
+        0x81..=0x84 => Command::Ind(byte - 0x80, false),
+        0x87 => Command::Ind(7, false),
+        0x89..=0x8C => Command::Ind(byte - 0x88, true),
+        0x8F => Command::Ind(7, true),
+        0x90..=0x91 => Command::Nop,
+        _ => Command::NotListed,
+    }
+}

@@ -1,0 +1,4 @@
+pub mod Lengths
+pub mod Columns
+pub mod Tens
+pub mod Drawn

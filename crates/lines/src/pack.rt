@@ -1,0 +1,61 @@
+// A line packed from the byte and the pairs of each of its forty cells.
+ghost use mathlib.Core.Path.{_≡_};
+ghost use mathlib.Core.List.{[], _∷_, _++_};
+ghost use Prim.Native.Nat.{_*_, _%_, _≤_};
+ghost use lib.ListN.{length, getD, take, drop};
+ghost use Rattle.basics.specs.Parts.{joined};
+ghost use Rattle.shown.specs.Lengths.{columnBytes, lineBytes};
+ghost use Rattle.cell.specs.HowPairs.{fourBy};
+ghost use Rattle.lines.specs.HowLines.{fourOf};
+
+// One of the four pairs, by the two lowest bits of a number. Choices without a jump, so that the loop over the cells becomes vector
+// instructions.
+fn chosen(by: u8, none: u8, left: u8, right: u8, both: u8) -> u8
+    ensures { λ r. ⌜ r ≡ getD (none ∷ left ∷ right ∷ both ∷ []) (by % 4) 0 ⌝ }
+{
+    let low = if by % 2 == 1 { left } else { none };
+    let high = if by % 2 == 1 { both } else { right };
+    if by / 2 % 2 == 1 { high } else { low }
+}
+
+// The four packed bytes of a cell.
+fn four(by: u8, none: u8, left: u8, right: u8, both: u8) -> [u8; 4]
+    ensures { λ r. ⌜ r ≡ fourBy by (none ∷ left ∷ right ∷ both ∷ []) ⌝ }
+{
+    [
+        chosen(by, none, left, right, both),
+        chosen(by / 4, none, left, right, both),
+        chosen(by / 16, none, left, right, both),
+        chosen(by / 64, none, left, right, both),
+    ]
+}
+
+// The packed bytes of the cells from `first` up to `end`, put in their places of a line that has those of the cells before them.
+fn pack(line: &mut [u8; 160], bytes: [u8; 40], pairs: &[u8; 160], first: usize, end: usize)
+    requires { ⌜ (length (now line) ≡ lineBytes columnBytes) × (first ≤ end) × (end ≤ 40) × (take (columnBytes * first) (now line) ≡ joined (fourOf bytes (now pairs)) first) ⌝ }
+    ensures { λ _. ⌜ now (line .exit) ≡ joined (fourOf bytes (now (pairs .entry))) end ++ drop (columnBytes * end) (now (line .entry)) ⌝ }
+{
+    for x in first..end {
+        let four = four(
+            bytes[x],
+            pairs[x],
+            pairs[40 + x],
+            pairs[80 + x],
+            pairs[120 + x],
+        );
+        line[4 * x] = four[0];
+        line[4 * x + 1] = four[1];
+        line[4 * x + 2] = four[2];
+        line[4 * x + 3] = four[3];
+    }
+}
+
+// The packed line of forty cells. Thirty-two are a whole number of vectors, and the rest is packed apart.
+pub fn packed_line(bytes: [u8; 40], pairs: &[u8; 160]) -> [u8; 160]
+    ensures { λ r. ⌜ r ≡ joined (fourOf bytes (now (pairs .entry))) 40 ⌝ }
+{
+    let mut line = [0u8; 160];
+    pack(&mut line, bytes, pairs, 0, 32);
+    pack(&mut line, bytes, pairs, 32, 40);
+    line
+}

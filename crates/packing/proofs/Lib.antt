@@ -1,0 +1,3 @@
+pub mod Parts
+pub mod Layouts
+pub mod RoundTrip

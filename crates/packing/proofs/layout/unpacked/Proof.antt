@@ -1,0 +1,39 @@
+use Rattle.packing.specs.Layouts.{unpacked}
+use borrow.Author.Needs.{needs}
+use Rattle.packing.proofs.layout.unpacked.Statement.{statement}
+use Rattle.packing.proofs.layout.unpacked.Tie as tie
+
+eight-from-requires : tie.Need-eight-from-requires
+eight-from-requires c κs = search needs
+
+eight-from-requires-2 : tie.Need-eight-from-requires-2
+eight-from-requires-2 c κs = search needs
+
+marks-from-requires : tie.Need-marks-from-requires
+marks-from-requires c κs = search needs
+
+array-read-t9 : tie.Need-array-read-t9
+array-read-t9 c = search needs
+
+array-read-t13 : tie.Need-array-read-t13
+array-read-t13 c = search needs
+
+array-read-t17 : tie.Need-array-read-t17
+array-read-t17 c = search needs
+
+returns : tie.Need-returns
+unfolding unpacked
+returns c = let k = c .before in
+    rw (k .before .eight-from .ensures, k .eight-from2 .ensures, c .marks-from .ensures)
+
+pub unpacked-spec : {M : Type 1} → statement M
+unpacked-spec =
+    tie.close
+    (tie.spec
+    eight-from-requires
+    eight-from-requires-2
+    marks-from-requires
+    array-read-t9
+    array-read-t13
+    array-read-t17
+    returns)

@@ -1,0 +1,42 @@
+// The 64 bytes that hold a processor.
+ghost use mathlib.Core.Path.{_≡_};
+ghost use Rattle.packing.specs.Layouts.{packed, unpacked};
+use crate::part::eight_from;
+use crate::part::flag;
+use crate::part::marks_from;
+use crate::part::put_eight;
+use crate::part::put_marks;
+use processor::state::Processor;
+
+pub fn unpacked(bytes: [u8; 64]) -> Processor
+    ensures { λ r. ⌜ r ≡ unpacked bytes ⌝ }
+{
+    let registers = eight_from(bytes, 0);
+    let indirect = eight_from(bytes, 8);
+    let marks = marks_from(bytes, 19);
+    Processor {
+        registers,
+        indirect,
+        lxm: bytes[16] != 0,
+        lxa: bytes[17] != 0,
+        phase: bytes[18],
+        marks,
+    }
+}
+
+// Whatever the processor, its bytes unpack to it.
+pub fn packed(p: Processor) -> [u8; 64]
+    ensures { λ r. ⌜ (r ≡ packed p) × (unpacked r ≡ p) ⌝ }
+{
+    let mut bytes = [0u8; 64];
+    bytes[16] = flag(p.lxm);
+    bytes[17] = flag(p.lxa);
+    bytes[18] = p.phase;
+    let registers = p.registers;
+    let indirect = p.indirect;
+    let marks = p.marks;
+    put_eight(&mut bytes, 0, registers);
+    put_eight(&mut bytes, 8, indirect);
+    put_marks(&mut bytes, 19, marks);
+    bytes
+}

@@ -1,0 +1,69 @@
+use borrow.Author.Tests.{not-false}
+use borrow.Author.Needs.{needs}
+use Rattle.processor.proofs.execute.effect.Statement.{statement}
+use Rattle.processor.proofs.execute.effect.Tie as tie
+
+enum-told : tie.Need-enum-told
+enum-told c = search needs
+
+enum-known-command : tie.Need-enum-known-command
+enum-known-command c = search needs
+
+indirect-requires : tie.Need-indirect-requires
+indirect-requires c κs = rw (c .before .command .given .1) at (c .before .before .before .before .pre .1)
+
+enum-known-command-2 : tie.Need-enum-known-command-2
+enum-known-command-2 c = search needs
+
+krf-requires : tie.Need-krf-requires
+krf-requires c κs = (search needs, not-false _ (rw (c .before .before .command2 .given .1) at (c .before .before .before .before .before .pre .2)))
+
+enum-known-command-3 : tie.Need-enum-known-command-3
+enum-known-command-3 c = search needs
+
+oct-requires : tie.Need-oct-requires
+oct-requires c κs = (search needs, not-false _ (rw (c .before .before .command3 .given .1) at (c .before .before .before .before .before .pre .2)))
+
+enum-told-2 : tie.Need-enum-told-2
+enum-told-2 c = search needs
+
+returns : tie.Need-returns
+returns c = rw (c .enum-told .given .1)
+
+returns-2 : tie.Need-returns-2
+returns-2 c = rw (c .before .before .command .given .1, c .indirect .ensures)
+
+same-length : tie.Need-same-length
+same-length c = search needs
+
+returns-3 : tie.Need-returns-3
+returns-3 c = let b = c .before .before in rw (b .before .before .before .command2 .given .1) (b .krf .ensures)
+
+same-length-2 : tie.Need-same-length-2
+same-length-2 c = search needs
+
+returns-4 : tie.Need-returns-4
+returns-4 c = let b = c .before .before in rw (b .before .before .before .command3 .given .1) (b .oct .ensures)
+
+returns-5 : tie.Need-returns-5
+returns-5 c = rw (c .enum-told2 .given .1)
+
+pub effect-spec : {M : Type 1} → statement M
+effect-spec =
+    tie.close
+    (tie.spec
+    enum-told
+    enum-known-command
+    indirect-requires
+    enum-known-command-2
+    krf-requires
+    enum-known-command-3
+    oct-requires
+    enum-told-2
+    returns
+    returns-2
+    same-length
+    returns-3
+    same-length-2
+    returns-4
+    returns-5)

@@ -1,0 +1,64 @@
+use borrow.Author.Needs.{needs}
+use Rattle.processor.proofs.execute.is_astray.Statement.{statement}
+use Rattle.processor.proofs.execute.is_astray.Tie as tie
+
+enum-told : tie.Need-enum-told
+enum-told c = search needs
+
+enum-told-2 : tie.Need-enum-told-2
+enum-told-2 c = search needs
+
+enum-told-3 : tie.Need-enum-told-3
+enum-told-3 c = search needs
+
+pointer-requires : tie.Need-pointer-requires
+pointer-requires c κs = search needs
+
+is-legal-requires : tie.Need-is-legal-requires
+is-legal-requires c κs = search needs
+
+enum-known-command : tie.Need-enum-known-command
+enum-known-command c = search needs
+
+pointer-requires-2 : tie.Need-pointer-requires-2
+pointer-requires-2 c κs = search needs
+
+is-legal-requires-2 : tie.Need-is-legal-requires-2
+is-legal-requires-2 c κs = search needs
+
+enum-told-4 : tie.Need-enum-told-4
+enum-told-4 c = search needs
+
+returns : tie.Need-returns
+returns c = search needs
+
+returns-2 : tie.Need-returns-2
+returns-2 c = search needs
+
+returns-3 : tie.Need-returns-3
+returns-3 c = rw (c .before .before .enum-told3 .given .1, c .is-legal .ensures, c .before .pointer .ensures)
+
+returns-4 : tie.Need-returns-4
+returns-4 c = rw (c .before .before .before .command .given .1, c .is-legal2 .ensures, c .before .pointer2 .ensures)
+
+returns-5 : tie.Need-returns-5
+returns-5 c = search needs
+
+pub is-astray-spec : {M : Type 1} → statement M
+is-astray-spec =
+    tie.close
+    (tie.spec
+    enum-told
+    enum-told-2
+    enum-told-3
+    pointer-requires
+    is-legal-requires
+    enum-known-command
+    pointer-requires-2
+    is-legal-requires-2
+    enum-told-4
+    returns
+    returns-2
+    returns-3
+    returns-4
+    returns-5)

@@ -1,0 +1,47 @@
+use mathlib.Core.Path.{sym, ap, _∙_}
+use Rattle.command.specs.declared.answer.Answer.the-variants.{Accepted}
+use Rattle.processor.specs.States.{Chip}
+use Rattle.processor.specs.Access.{outcome, ran}
+use borrow.Author.Needs.{needs}
+use Rattle.processor.proofs.execute.run_command.Statement.{statement}
+use Rattle.processor.proofs.execute.run_command.Tie as tie
+
+is-unlisted-requires : tie.Need-is-unlisted-requires
+is-unlisted-requires c κs = search needs
+
+returns : tie.Need-returns
+unfolding ran
+returns c = rw (sym (c .before .is-unlisted .ensures) ∙ c .if1 .taken)
+
+is-astray-requires : tie.Need-is-astray-requires
+is-astray-requires c κs = search needs
+
+returns-2 : tie.Need-returns-2
+unfolding ran
+returns-2 c = rw (sym (c .before .before .before .is-unlisted .ensures) ∙ c .before .before .if1 .left, sym (c .before .is-astray .ensures) ∙ c .if2 .taken)
+
+effect-requires : tie.Need-effect-requires
+effect-requires c κs = (search needs, c .before .before .before .before .before .before .pre .1, sym (c .before .before .is-astray .ensures) ∙ c .before .if2 .left)
+
+same-length : tie.Need-same-length
+same-length c = search needs
+
+returns-3 : tie.Need-returns-3
+unfolding ran
+returns-3 c = let b = c .before .before in
+    let e = b .before .before in
+    let s = e .before .before .before .before .before in
+    rw (sym (e .before .before .before .is-unlisted .ensures) ∙ e .before .before .if1 .left, sym (e .before .is-astray .ensures) ∙ e .if2 .left)
+    (ap (λ (k : Chip). outcome k (Accepted (s .args .value))) (b .effect .ensures))
+
+pub run-command-spec : {M : Type 1} → statement M
+run-command-spec =
+    tie.close
+    (tie.spec
+    is-unlisted-requires
+    returns
+    is-astray-requires
+    returns-2
+    effect-requires
+    same-length
+    returns-3)
