@@ -24,18 +24,18 @@ use Rattle.packing.specs.Layouts.{Sized}
 abbrev Long : List Bool → Type 0
 Long marks = length marks ≡ 25
 
-abbrev S : Chip → Type 0
-S k = Sized (k .processor)
+abbrev SizedChip : Chip → Type 0
+SizedChip k = Sized (k .processor)
 
 -- marks, with others set or not
-stored-sized : (t : Triple) (v : ℕ) (k : Chip) → S k → S (stored t v k)
+stored-sized : (t : Triple) (v : ℕ) (k : Chip) → SizedChip k → SizedChip (stored t v k)
 unfolding stored storeMarks markedToo
 stored-sized t v k s = (s .0, s .1, pick-either Long (canDraw _ && not (eqb _ v)) _ _ (length-table _ 25) (s .2))
 
-phased-sized : (n : ℕ) (k : Chip) → S k → S (phased n k)
+phased-sized : (n : ℕ) (k : Chip) → SizedChip k → SizedChip (phased n k)
 unfolding phased phaseMarks markedToo
 phased-sized n k s =
-    pick-either S (eqb (k .processor .phase) n) k _ s (s .0, s .1, pick-either Long (canDraw _) _ _ (length-table _ 25) (s .2))
+    pick-either SizedChip (eqb (k .processor .phase) n) k _ s (s .0, s .1, pick-either Long (canDraw _) _ _ (length-table _ 25) (s .2))
 
 indirect-sized : (r : ℕ) (p : Processor) → Sized p → Sized (indirectWritten p r)
 unfolding indirectWritten
@@ -45,7 +45,7 @@ indirect-sized r p s = (
   pick-either Long (not (eqb (getD (p .indirect) r 0) (registerOf p 1)) && not (eqb r 2)) allMarked (p .marks) (length-table (λ r. true) 25) (s .2),
 )
 
-sized : KeptBy noneBarred S
+sized : KeptBy noneBarred SizedChip
 sized =
     record {
       register = λ k n v s. (length-set (k .processor .registers) n v ∙ s .0, s .1, s .2);
@@ -55,25 +55,25 @@ sized =
     }
 
 -- accesses and the phase change
-abbrev L : Outcome → Type 0
-L o = S (o .left)
+abbrev LeftSized : Outcome → Type 0
+LeftSized o = SizedChip (o .left)
 
-pub written-sized : (address v : ℕ) (k : Chip) → S k → L (written address v k)
-written-sized address v k s = write-keeps noneBarred S sized address v k (λ x. refl) s
+pub written-sized : (address v : ℕ) (k : Chip) → SizedChip k → LeftSized (written address v k)
+written-sized address v k s = write-keeps noneBarred SizedChip sized address v k (λ x. refl) s
 
-pub read-sized : (address : ℕ) (k : Chip) → S k → L (readOut address k)
-read-sized address k s = read-keeps noneBarred S sized address k (λ x. refl) s
+pub read-sized : (address : ℕ) (k : Chip) → SizedChip k → LeftSized (readOut address k)
+read-sized address k s = read-keeps noneBarred SizedChip sized address k (λ x. refl) s
 
-pub turned-sized : (n : ℕ) (k : Chip) → S k → L (turned n k)
-turned-sized n k s = turn-keeps S n k s (phased-sized n k s)
+pub turned-sized : (n : ℕ) (k : Chip) → SizedChip k → LeftSized (turned n k)
+turned-sized n k s = turn-keeps SizedChip n k s (phased-sized n k s)
 
 -- the draw
-abbrev D : DrawOutcome → Type 0
-D o = Sized (o .processor)
+abbrev DrawnSized : DrawOutcome → Type 0
+DrawnSized o = Sized (o .processor)
 
-pub drawn-sized : (p : Processor) (m rom picture : List ℕ) → Sized p → D (drawn p m rom picture)
+pub drawn-sized : (p : Processor) (m rom picture : List ℕ) → Sized p → DrawnSized (drawn p m rom picture)
 unfolding drawnPage
-drawn-sized p m rom picture s = draw-known D p m rom picture (λ a e n. s) (λ e can. (s .0, s .1, length-table (λ r. false) 25))
+drawn-sized p m rom picture s = draw-known DrawnSized p m rom picture (λ a e n. s) (λ e can. (s .0, s .1, length-table (λ r. false) 25))
 
 -- each operation, and so each run from power-up
 sized-in : KeptByAll (λ (w : World). Sized (w .processor))

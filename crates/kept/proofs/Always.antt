@@ -46,10 +46,10 @@ all-marked : (r : ℕ) → r < 25 → isMarked allMarked r ≡ true
 all-marked r l = table-at (λ s. true) 25 r false l
 
 module _ (rom picture : List ℕ) where
-  abbrev F : Chip → Type 0
-  F k = Fresh (k .processor) (k .memory) rom picture
+  abbrev FreshChip : Chip → Type 0
+  FreshChip k = Fresh (k .processor) (k .memory) rom picture
 
-  stored-fresh : (t : Triple) (v : ℕ) (k : Chip) → F k → F (stored t v k)
+  stored-fresh : (t : Triple) (v : ℕ) (k : Chip) → FreshChip k → FreshChip (stored t v k)
   unfolding stored
   stored-fresh t v k f r l e =
       let p = k .processor in
@@ -82,7 +82,7 @@ module _ (rom picture : List ℕ) where
   marked-fresh : (shown : Shown) (m : List ℕ) → FreshOn shown allMarked m rom picture
   marked-fresh shown m s l e = absurd (false≢true (sym e ∙ all-marked s l))
 
-  indirect-fresh : (r : ℕ) (k : Chip) → F k → F (chip (indirectWritten (k .processor) r) (k .memory))
+  indirect-fresh : (r : ℕ) (k : Chip) → FreshChip k → FreshChip (chip (indirectWritten (k .processor) r) (k .memory))
   unfolding indirectWritten
   indirect-fresh r k f =
       let p = k .processor in
@@ -93,7 +93,7 @@ module _ (rom picture : List ℕ) where
       (λ e. same-or-mat (p .indirect) (p .phase) (p .marks) (k .memory) f r (registerOf p 1) e)
 
   -- no other register is looked at, and no LX bit
-  fresh-kept : KeptBy noneBarred F
+  fresh-kept : KeptBy noneBarred FreshChip
   fresh-kept =
       record {
         register = λ k n v f. f;
@@ -102,13 +102,13 @@ module _ (rom picture : List ℕ) where
         ind = λ r n k f. indirect-fresh r k f;
       }
 
-  phased-fresh : (n : ℕ) (k : Chip) → F k → F (phased n k)
+  phased-fresh : (n : ℕ) (k : Chip) → FreshChip k → FreshChip (phased n k)
   unfolding phased
   phased-fresh n k f =
       let p = k .processor in
       let shown = shownOf p in
       let turned = shownBy (p .indirect) n in
-      pick-known F (eqb (p .phase) n) k _ (λ e. f)
+      pick-known FreshChip (eqb (p .phase) n) k _ (λ e. f)
       (λ e r l u.
       let b = f r l (phase-before shown (k .memory) (p .marks) r l u) in
       (can-draw-same turned shown refl refl refl ∙ b .0, b .1 ∙ phase-keeps shown (k .memory) (p .marks) r l turned refl refl refl (b .0) u rom))
@@ -121,25 +121,25 @@ module _ (p : Processor) (m rom picture : List ℕ) (f : Fresh p m rom picture) 
   page-fresh : redrawn (p .marks) picture m rom seen ≡ fresh m rom seen
   page-fresh = redrawn-fresh (p .marks) picture m rom seen (λ r l e. f r l e .1)
 
-  abbrev D : DrawOutcome → Type 0
-  D o = Fresh (o .processor) m rom (o .picture)
+  abbrev LeftFresh : DrawOutcome → Type 0
+  LeftFresh o = Fresh (o .processor) m rom (o .picture)
 
-  abbrev A : DrawOutcome → Type 0
-  A o = drawNumberOf (o .answer) ≡ 0 → (o .picture ≡ fresh m rom seen) × (rowsOf (o .answer) ≡ markedRows (p .marks) 25)
+  abbrev DrawnFresh : DrawOutcome → Type 0
+  DrawnFresh o = drawNumberOf (o .answer) ≡ 0 → (o .picture ≡ fresh m rom seen) × (rowsOf (o .answer) ≡ markedRows (p .marks) 25)
 
-  page-left : isShown p ≡ true → D (drawnPage p m rom picture)
+  page-left : isShown p ≡ true → LeftFresh (drawnPage p m rom picture)
   unfolding drawnPage
   page-left can r l e = (can, ap (λ (q : List ℕ). partOf (rowBytes columnBytes) q r) page-fresh ∙ fresh-part m rom seen r l)
 
-  page-accepted : A (drawnPage p m rom picture)
+  page-accepted : DrawnFresh (drawnPage p m rom picture)
   unfolding drawnPage
   page-accepted e = (page-fresh, refl)
 
-  drawn-left : D (drawn p m rom picture)
-  drawn-left = draw-known D p m rom picture (λ a e n. f) (λ e can. page-left can)
+  drawn-left : LeftFresh (drawn p m rom picture)
+  drawn-left = draw-known LeftFresh p m rom picture (λ a e n. f) (λ e can. page-left can)
 
-  drawn-accepted : A (drawn p m rom picture)
-  drawn-accepted = draw-known A p m rom picture (λ a e n z. absurd (n z)) (λ e can. page-accepted)
+  drawn-accepted : DrawnFresh (drawn p m rom picture)
+  drawn-accepted = draw-known DrawnFresh p m rom picture (λ a e n z. absurd (n z)) (λ e can. page-accepted)
 
 -- each operation, and so each run
 fresh-in : KeptByAll FreshIn

@@ -29,11 +29,11 @@ use Rattle.kept.proofs.Marks.{store-marks-exact, indirect-marks-exact, 
 use Rattle.kept.proofs.Walk.{Ends, write-known, read-known, turn-known, draw-known, effect-keeps, commandIn, registered, chipOf}
 
 module _ (r : ℕ) (l : r < 25) where
-  abbrev M : Chip → Bool
-  M k = isMarked (k .processor .marks) r
+  abbrev marked : Chip → Bool
+  marked k = isMarked (k .processor .marks) r
 
   -- KRF's three stores
-  three : (t : Triple) (k : Chip) → M (codeStored t k) ≡ (M k || codeRule t k r)
+  three : (t : Triple) (k : Chip) → marked (codeStored t k) ≡ (marked k || codeRule t k r)
   unfolding codeStored
   three t k =
       let p = k .processor in
@@ -46,8 +46,8 @@ module _ (r : ℕ) (l : r < 25) where
       ∙ ap (λ (b : Bool). b || s2)
       (store-marks-exact (blockAt t 1) (registerOf p 2) k1 r l
       ∙ ap (λ (b : Bool). b || s1) (store-marks-exact (blockAt t 0) (registerOf p 1) k r l)
-      ∙ or-assoc (M k) s0 s1)
-      ∙ or-assoc (M k) (s0 || s1) s2
+      ∙ or-assoc (marked k) s0 s1)
+      ∙ or-assoc (marked k) (s0 || s1) s2
 
   at : (a b : List Bool) → a ≡ b → isMarked a r ≡ isMarked b r
   at a b e = ap (λ (q : List Bool). isMarked q r) e
@@ -57,18 +57,18 @@ module _ (r : ℕ) (l : r < 25) where
   settled c k = pick (isUnlisted c || isAstray c (k .processor)) k (effect c k)
 
   -- where it is no marker, the row is marked as it was
-  unruled : (c : Command) (k : Chip) → isMarker c ≡ false → M (settled c k) ≡ (M k || false)
+  unruled : (c : Command) (k : Chip) → isMarker c ≡ false → marked (settled c k) ≡ (marked k || false)
   unruled c k n =
-      pick-either (λ (j : Chip). M j ≡ M k) (isUnlisted c || isAstray c (k .processor)) k (effect c k) refl
+      pick-either (λ (j : Chip). marked j ≡ marked k) (isUnlisted c || isAstray c (k .processor)) k (effect c k) refl
       (at _ _ (effect-keeps isMarker _ (unmarked _) c n k refl))
-      ∙ sym (or-false (M k))
+      ∙ sym (or-false (marked k))
 
-  pointed : (b : Bool) (k done : Chip) (rule : Bool) → M done ≡ (M k || rule) → M (pick (not b) k done) ≡ (M k || (b && rule))
+  pointed : (b : Bool) (k done : Chip) (rule : Bool) → marked done ≡ (marked k || rule) → marked (pick (not b) k done) ≡ (marked k || (b && rule))
   pointed true k done rule e = e
-  pointed false k done rule e = sym (or-false (M k))
+  pointed false k done rule e = sym (or-false (marked k))
 
   -- a command marks by its rule
-  ruled : (c : Command) (k : Chip) → M (settled c k) ≡ (M k || commandRule c k r)
+  ruled : (c : Command) (k : Chip) → marked (settled c k) ≡ (marked k || commandRule c k r)
   unfolding indirect
   ruled Nop k = unruled Nop k refl
   ruled (Ind n true) k = unruled (Ind n true) k refl
@@ -89,7 +89,7 @@ module _ (r : ℕ) (l : r < 25) where
   -- the register access itself marks nothing
   access-exact :
       (address v : ℕ) (k : Chip) (p : Processor) → k .processor .marks ≡ p .marks →
-      Ends address v k p (λ (o : Outcome). M (o .left) ≡ ((isMarked (p .marks) r && true) || accessRule address (chip p (k .memory)) r))
+      Ends address v k p (λ (o : Outcome). marked (o .left) ≡ ((isMarked (p .marks) r && true) || accessRule address (chip p (k .memory)) r))
   access-exact address v k p e =
       let j = chip p (k .memory) in
       let command = ruled (commandIn p) j in
@@ -110,7 +110,7 @@ module _ (r : ℕ) (l : r < 25) where
   marks-exact (read address) w = read-known _ address (chipOf w) (access-exact address _ (chipOf w) (w .processor) refl)
   marks-exact (turn n) w =
       let k = chipOf w in
-      turn-known (λ (o : Outcome). M (o .left) ≡ ((M k && true) || marksRow (turn n) w r)) n k
+      turn-known (λ (o : Outcome). marked (o .left) ≡ ((marked k && true) || marksRow (turn n) w r)) n k
       (λ m. rw (m, and-true, or-false))
       (λ m e. rw (m, e, and-true, or-false))
       (λ m e. rw (m, e, and-true) (phase-marks-exact n k r l))
