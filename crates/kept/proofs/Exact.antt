@@ -11,7 +11,7 @@ use Rattle.basics.proofs.Choice.{pick-either}
 use Rattle.basics.specs.Choice.{pick}
 use Rattle.address.specs.Triples.{legal}
 use Rattle.address.specs.declared.triple.Triple.{Triple}
-use Rattle.picture.specs.Redraws.{isMarked}
+use Rattle.page.specs.Marks.{isMarked}
 use Rattle.command.specs.declared.Command.{Command}
 use Rattle.command.specs.declared.Command.the-variants.{Nop, Ind, Krf, Oct, NotListed}
 use Rattle.processor.specs.declared.state.Processor.{Processor}

@@ -1,19 +1,18 @@
 -- What the code draws of a line has the pixels of its forty cells.
 -- Assumes nothing.
 use Prim.Native.Nat.{ℕ, _*_, _≤_, _<_}
-use mathlib.Core.Path.{_≡_, refl, sym, ap, ap₂, _∙_}
-use mathlib.Core.Bool.{Bool, true, false, _&&_}
-use mathlib.Core.List.{List, [], _∷_}
+use mathlib.Core.Path.{_≡_, ap, ap₂, _∙_}
+use mathlib.Core.Bool.{Bool, false, _&&_}
+use mathlib.Core.List.{List, []}
 use native.Mathlib.Omega.{arith}
 use lib.Dec.{eqb}
 use lib.ListN.{length, getD, take, drop, replicate}
 use lib.Seq.{take-at}
-use Rattle.basics.specs.Choice.{pick}
 use Rattle.basics.specs.Bits.{fromBits}
-use Rattle.basics.specs.Parts.{table, joined}
+use Rattle.basics.specs.Parts.{joined}
 use Rattle.basics.proofs.Choice.{pick-known}
 use Rattle.basics.proofs.Filled.{filled, length-filled}
-use Rattle.basics.proofs.Parts.{length-table, length-joined, table-at, table-same, joined-same}
+use Rattle.basics.proofs.Parts.{length-table, length-joined, table-at, joined-same}
 use Rattle.shown.specs.declared.Shown.{Shown}
 use Rattle.shown.specs.Lengths.{columnBytes, lineBytes}
 use Rattle.cell.specs.declared.kind.Cell.{Cell}
@@ -25,11 +24,12 @@ use Rattle.cell.proofs.Bytes.{effective-lined, effective-taken}
 use Rattle.cell.proofs.Drawn.{pairs-line, four-long}
 use Rattle.page.specs.Sources.{slicesOf}
 use Rattle.page.specs.Inputs.{decoded}
-use Rattle.lines.specs.HowColumns.{sideBySide, byteIn}
-use Rattle.lines.specs.HowLines.{takenAt, tenOf, tenAt, tensOf, pairsAt, pairsOf, linedByte, linedOn, byteOn, bytesOn, fourOf, lineOn}
+use Rattle.columns.specs.HowColumns.{byteIn}
+use Rattle.columns.specs.HowTens.{takenAt, tenOf, tenAt, tensOf, pairsAt, pairsOf}
+use Rattle.lines.specs.HowLines.{linedByte, byteOn, bytesOn, fourOf, lineOn}
 use Rattle.lines.proofs.Lengths.{columns-long}
-use Rattle.lines.proofs.Columns.{side-at, side-column}
-use Rattle.lines.proofs.Tens.{early-plain, slice-small}
+use Rattle.columns.proofs.Columns.{side-at, side-column}
+use Rattle.columns.proofs.Tens.{slice-small}
 
 -- a packed line of forty columns
 pub line-long : (cells : List (List ℕ)) (lowers : List Bool) (tens pairs : List ℕ) (n : ℕ) → length (lineOn cells lowers tens pairs n) ≡ lineBytes columnBytes
@@ -40,28 +40,14 @@ line-long cells lowers tens pairs n = columns-long columnBytes _ (λ x l. four-l
 module _ (bytes pairs line : List ℕ) (begun : line ≡ filled columnBytes (fourOf bytes pairs) (replicate (lineBytes columnBytes) 0) 32) where
   pub begun-long : length line ≡ lineBytes columnBytes
   begun-long =
-      let h : 128 ≤ 160 = omega arith in
+      let h : columnBytes * 32 ≤ lineBytes columnBytes = omega arith in
       ap length begun ∙ length-filled columnBytes (fourOf bytes pairs) (replicate (lineBytes columnBytes) 0) 32 (λ x l. four-long _ _) h
 
   pub begun-front : take (columnBytes * 32) line ≡ joined (fourOf bytes pairs) 32
   begun-front =
-      ap (take 128) begun
-      ∙ take-at (joined (fourOf bytes pairs) 32) (drop 128 (replicate (lineBytes columnBytes) 0)) 128
+      ap (take (columnBytes * 32)) begun
+      ∙ take-at (joined (fourOf bytes pairs) 32) (drop (columnBytes * 32) (replicate (lineBytes columnBytes) 0)) (columnBytes * 32)
       (length-joined columnBytes (fourOf bytes pairs) 32 (λ j l. four-long _ _))
-
--- the bytes of a line, underlined where they are asked for it and left where no cell is
-module _ (cells : List (List ℕ)) (lowers : List Bool) (tens : List ℕ) (n : ℕ) (plain : List ℕ) (is-plain : plain ≡ table (byteIn tens n) 40) where
-  pub bytes-lined : (k : ℕ) → n ≡ k → table (linedOn cells lowers plain k) 40 ≡ bytesOn cells lowers tens n
-  unfolding bytesOn
-  bytes-lined k e =
-      table-same _ _ 40
-      (λ x l.
-      ap₂ (linedByte (getD cells x []) (getD lowers x false)) (sym e) (ap (λ (z : List ℕ). getD z x 0) is-plain ∙ table-at (byteIn tens n) 40 x 0 l))
-
-  pub bytes-plain : n < 8 → plain ≡ bytesOn cells lowers tens n
-  unfolding bytesOn linedByte
-  bytes-plain h =
-      is-plain ∙ table-same _ _ 40 (λ x l. sym (ap (λ (t : Bool). pick t 255 (byteIn tens n x)) (early-plain (decoded (getD cells x [])) (getD lowers x false) n h)))
 
 -- a cell has four pairs
 pairs-four : (cell : Cell) (shown : Shown) → length (cellPairs cell shown) ≡ 4
@@ -89,22 +75,22 @@ module _ (shown : Shown) (code : List ℕ) (lower right : Bool) (n s : ℕ) wher
       ap (λ (b : ℕ). fourBy b (cellPairs (decoded code) shown)) effective-byte
       ∙ pairs-line shown right (sliceShown (decoded code) lower n) s (decoded code) h
 
-module _
-    (m rom : List ℕ) (m-small : (i : ℕ) → getD m i 0 < 256) (rom-small : (i : ℕ) → getD rom i 0 < 256) (shown : Shown) (cells : List (List ℕ))
-    (lowers rights : List Bool)
-  where
-    -- cell x, and the number of the slice that it shows on line n
-    abbrev cellAt : ℕ → Cell
-    cellAt x = decoded (getD cells x [])
+module _ (m rom : List ℕ) (shown : Shown) (cells : List (List ℕ)) (lowers rights : List Bool) where
+  -- cell x, and the number of the slice that it shows on line n
+  abbrev cellAt : ℕ → Cell
+  cellAt x = decoded (getD cells x [])
 
-    abbrev numberAt : ℕ → ℕ → ℕ
-    numberAt n x = sliceShown (cellAt x) (getD lowers x false) n
+  abbrev numberAt : ℕ → ℕ → ℕ
+  numberAt n x = sliceShown (cellAt x) (getD lowers x false) n
 
-    -- the pixels of cell x on line n
-    abbrev pub pixelsOn : ℕ → ℕ → List ℕ
-    pixelsOn n x = cellLine (cellAt x) shown (getD rights x false) (numberAt n x) (slicesOf m rom shown (cellAt x) (numberAt n x))
+  -- the pixels of cell x on line n
+  abbrev pub pixelsOn : ℕ → ℕ → List ℕ
+  pixelsOn n x = cellLine (cellAt x) shown (getD rights x false) (numberAt n x) (slicesOf m rom shown (cellAt x) (numberAt n x))
 
-    module _ (tens pairs : List ℕ) (is-tens : tens ≡ tensOf m rom shown cells lowers rights) (is-pairs : pairs ≡ pairsOf cells shown) (n : ℕ) (h : n < 10) where
+  module _
+      (m-small : (i : ℕ) → getD m i 0 < 256) (rom-small : (i : ℕ) → getD rom i 0 < 256) (tens pairs : List ℕ)
+      (is-tens : tens ≡ tensOf m rom shown cells lowers rights) (is-pairs : pairs ≡ pairsOf cells shown) (n : ℕ) (h : n < 10)
+    where
       -- the effective byte of cell x
       byte-is :
           (x : ℕ) → x < 40

@@ -1,4 +1,3 @@
 pub mod Lengths
-pub mod Columns
-pub mod Tens
+pub mod Underlines
 pub mod Drawn

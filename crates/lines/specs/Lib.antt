@@ -1,2 +1,1 @@
-pub mod HowColumns
 pub mod HowLines

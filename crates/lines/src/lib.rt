@@ -1,7 +1,4 @@
-// What the lines of a row are made of: the ten bytes and the four pairs of each cell, worked out once a row, and a line packed from them.
+// A line of a row, built by value from what was worked out once for the row: the byte of each cell, and the packed bytes that it chooses.
 pub mod byte;
-pub mod column;
 pub mod line;
 pub mod pack;
-pub mod pairs;
-pub mod ten;

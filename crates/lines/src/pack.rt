@@ -43,10 +43,11 @@ fn pack(line: &mut [u8; 160], bytes: [u8; 40], pairs: &[u8; 160], first: usize, 
             pairs[80 + x],
             pairs[120 + x],
         );
-        line[4 * x] = four[0];
-        line[4 * x + 1] = four[1];
-        line[4 * x + 2] = four[2];
-        line[4 * x + 3] = four[3];
+        let at = 4 * x;
+        line[at] = four[0];
+        line[at + 1] = four[1];
+        line[at + 2] = four[2];
+        line[at + 3] = four[3];
     }
 }
 

@@ -14,12 +14,13 @@ use Rattle.page.specs.Codes.{codeAt, rowBuffer}
 use Rattle.page.specs.Halves.{lowerHalf, rightHalf, lowerHalves}
 use Rattle.page.specs.HowHalves.{rightIn}
 use Rattle.page.specs.Sources.{characterOf, cellSource, keptSlice, sliceFrom, slicesOf}
-use Rattle.page.specs.Inputs.{decoded, takenFrom, sliceByte, CellInput, cellInput, noInput, rowInput}
+use Rattle.page.specs.Inputs.{decoded, takenFrom, sliceByte, cellInput, noInput, rowInput}
 use Rattle.page.specs.declared.source.Source.{Source}
 use Rattle.page.specs.declared.source.Source.the-variants.{Rom, Block}
 use Rattle.page.proofs.Halves.{right-row}
-use Rattle.lines.specs.HowLines.{tensOf, pairsOf, lineOn}
-use Rattle.lines.proofs.Tens.{shown-small}
+use Rattle.columns.specs.HowTens.{tensOf, pairsOf}
+use Rattle.lines.specs.HowLines.{lineOn}
+use Rattle.columns.proofs.Tens.{shown-small}
 use Rattle.lines.proofs.Drawn.{pixelsOn, drawn-line}
 use Rattle.picture.specs.Rows.{paintedCell, paintedLine, painted}
 use Rattle.picture.specs.HowRows.{inputAt, inputsOf}
@@ -36,7 +37,7 @@ module _
     -- cell x of line n
     drawn-cell :
         (n x : ℕ) → n < 10 → x < 40
-        → pixelsOn m rom m-small rom-small shown cells lowers rights n x ≡ paintedCell rom shown n (getD (inputsOf m shown cells lowers) x noInput)
+        → pixelsOn m rom shown cells lowers rights n x ≡ paintedCell rom shown n (getD (inputsOf m shown cells lowers) x noInput)
     unfolding slicesOf inputAt
     drawn-cell n x h l =
         let cell = decoded (getD cells x []) in
@@ -55,7 +56,7 @@ module _
         is-part
         ∙ joined-same _ _ 10
         (λ n h.
-        drawn-line m rom m-small rom-small shown cells lowers rights tens pairs is-tens is-pairs n h
+        drawn-line m rom shown cells lowers rights m-small rom-small tens pairs is-tens is-pairs n h
         ∙ joined-same _ _ 40 (λ x l. drawn-cell n x h l))
 
 -- what the code takes for a row is what the row takes

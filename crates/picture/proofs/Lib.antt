@@ -1,4 +1,5 @@
 pub mod Drawn
+pub mod AnyRows
 pub mod Redrawing
 pub mod Alike
 pub mod Phases

@@ -1,6 +1,6 @@
 -- A row without a bichrome cell whose A3 is set looks the same in every phase.
 -- Assumes nothing.
-use Prim.Native.Nat.{ℕ, _<_}
+use Prim.Native.Nat.{ℕ}
 use mathlib.Core.Path.{_≡_}
 use mathlib.Core.Bool.{Bool, true, false, not, _&&_}
 use mathlib.Core.List.{List}
@@ -14,8 +14,8 @@ use Rattle.cell.specs.declared.kind.BichromeCell.{BichromeCell}
 use Rattle.cell.specs.declared.kind.Cell.the-variants.{Bichrome, Quadrichrome}
 use Rattle.cell.specs.Cells.{bichromeOf, quadrichromeOf, isQuadrichrome, cellOf}
 use Rattle.cell.specs.Pixels.{concealed, flashed, dyed}
-use Rattle.page.specs.Inputs.{CellInput, flashes, noInput, rowInput}
-use Rattle.picture.specs.Rows.{painted, rowOf}
+use Rattle.page.specs.Inputs.{CellInput, flashes, noInput}
+use Rattle.picture.specs.Rows.{painted}
 use Rattle.picture.proofs.Alike.{Alike, painted-alike}
 
 -- some cell of a row flashes

@@ -1,23 +1,14 @@
 -- The picture drawn afresh, and the picture kept by redrawing marked rows.
 -- Assumes nothing.
 use Prim.Native.Nat.{ℕ}
-use mathlib.Core.Bool.{Bool, false}
+use mathlib.Core.Bool.{Bool}
 use mathlib.Core.List.{List}
-use lib.ListN.{getD}
 use Rattle.basics.specs.Choice.{pick}
-use Rattle.basics.specs.Below.{countBelow}
 use Rattle.basics.specs.Parts.{joined, partOf}
 use Rattle.shown.specs.declared.Shown.{Shown}
 use Rattle.shown.specs.Lengths.{columnBytes, rowBytes}
+use Rattle.page.specs.Marks.{isMarked}
 use Rattle.picture.specs.Rows.{rowOf}
-
--- row r is marked
-abbrev pub isMarked : List Bool → ℕ → Bool
-isMarked marks r = getD marks r false
-
--- how many rows below n are marked
-abbrev pub markedRows : List Bool → ℕ → ℕ
-markedRows marks n = countBelow (isMarked marks) n
 
 -- A row is the 1,600 bytes of the picture from 1,600 times its number: row r after a redraw, with k bytes a column
 abbrev pub rowAfter : ℕ → List Bool → List ℕ → (ℕ → List ℕ) → ℕ → List ℕ

@@ -3,7 +3,8 @@ ghost use mathlib.Core.Path.{_≡_};
 ghost use lib.ListN.{length};
 ghost use Rattle.address.specs.Boards.{memoryBytes};
 ghost use Rattle.shown.specs.Lengths.{romBytes, columnBytes, pictureBytes};
-ghost use Rattle.picture.specs.Redraws.{redrawn, markedRows};
+ghost use Rattle.page.specs.Marks.{markedRows};
+ghost use Rattle.picture.specs.Redraws.{redrawn};
 use crate::row::draw_row;
 use page::code::row_buffer;
 use page::half::Above;
@@ -30,10 +31,7 @@ pub fn redraw(
     };
     for r in 0..25 {
         if !marks[r] {
-            above = Above {
-                known: false,
-                lowers: [false; 40],
-            };
+            above.known = false;
             continue;
         }
         let here = row_buffer(memory, shown, r as u8);

@@ -7,9 +7,9 @@ ghost use Rattle.shown.specs.Lengths.{romBytes, columnBytes, lineBytes, rowByte
 ghost use Rattle.lines.specs.HowLines.{lineOn};
 ghost use Rattle.picture.specs.Rows.{painted};
 ghost use Rattle.picture.specs.HowRows.{inputsOf};
+use columns::pairs::pairs_of;
+use columns::ten::tens_of;
 use lines::line::line;
-use lines::pairs::pairs_of;
-use lines::ten::tens_of;
 use page::half::right_halves;
 use shown::Shown;
 use shown::length::LINE_BYTES;

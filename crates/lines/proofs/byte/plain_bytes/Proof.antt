@@ -1,4 +1,4 @@
-use Rattle.lines.specs.HowColumns.{byteIn}
+use Rattle.columns.specs.HowColumns.{byteIn}
 use Rattle.basics.proofs.Filled.{table-set, table-end}
 use Rattle.basics.specs.Parts.{table, joined}
 use lib.ListN.{length, take, length-set}

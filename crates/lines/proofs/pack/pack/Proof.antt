@@ -1,3 +1,4 @@
+use Rattle.shown.specs.Lengths.{columnBytes, lineBytes}
 use Rattle.cell.proofs.Drawn.{four-long}
 use Rattle.lines.specs.HowLines.{fourOf}
 use Rattle.basics.proofs.Filled.{filled, filled-four}
@@ -11,7 +12,7 @@ use Rattle.lines.proofs.pack.pack.Statement.{statement}
 use Rattle.lines.proofs.pack.pack.Tie as tie
 
 abbrev Inv-loop : tie.InvT-loop
-Inv-loop line₀ pairs first end bytes x₀ line x = (x ≤ end) × (end ≤ 40) × (length line ≡ 160) × (line ≡ filled 4 (fourOf bytes pairs) line₀ x)
+Inv-loop line₀ pairs first end bytes x₀ line x = (x ≤ end) × (end ≤ 40) × (length line ≡ lineBytes columnBytes) × (line ≡ filled columnBytes (fourOf bytes pairs) line₀ x)
 
 abbrev μ-loop : tie.MeasureT-loop
 μ-loop line₀ pairs first end bytes x₀ line x = end - x
@@ -22,7 +23,7 @@ loop-holds c = let p = c .pre in
       p .1,
       p .2,
       p .0,
-      sym (take-append-drop (4 * a .first) (a .line .now)) ∙ ap (λ (z : List ℕ). z ++ drop (4 * a .first) (a .line .now)) (p .3),
+      sym (take-append-drop (columnBytes * a .first) (a .line .now)) ∙ ap (λ (z : List ℕ). z ++ drop (columnBytes * a .first) (a .line .now)) (p .3),
     )
 
 array-read-four : tie.Need-array-read-four Inv-loop μ-loop
@@ -52,20 +53,17 @@ element-copy-out-four-4 c = search needs
 four-requires : tie.Need-four-requires Inv-loop μ-loop
 four-requires c κs = search needs
 
+mul-at : tie.Need-mul-at Inv-loop μ-loop
+mul-at c = search needs
+
 array-read-line : tie.Need-array-read-line Inv-loop μ-loop
 array-read-line c = search needs
-
-mul-line : tie.Need-mul-line Inv-loop μ-loop
-mul-line c = search needs
 
 element-write-line : tie.Need-element-write-line Inv-loop μ-loop
 element-write-line c = search needs
 
 array-read-line-2 : tie.Need-array-read-line-2 Inv-loop μ-loop
 array-read-line-2 c = search needs
-
-mul-line-2 : tie.Need-mul-line-2 Inv-loop μ-loop
-mul-line-2 c = search needs
 
 add-line : tie.Need-add-line Inv-loop μ-loop
 add-line c = search needs
@@ -76,9 +74,6 @@ element-write-line-2 c = search needs
 array-read-line-3 : tie.Need-array-read-line-3 Inv-loop μ-loop
 array-read-line-3 c = search needs
 
-mul-line-3 : tie.Need-mul-line-3 Inv-loop μ-loop
-mul-line-3 c = search needs
-
 add-line-2 : tie.Need-add-line-2 Inv-loop μ-loop
 add-line-2 c = search needs
 
@@ -87,9 +82,6 @@ element-write-line-3 c = search needs
 
 array-read-line-4 : tie.Need-array-read-line-4 Inv-loop μ-loop
 array-read-line-4 c = search needs
-
-mul-line-4 : tie.Need-mul-line-4 Inv-loop μ-loop
-mul-line-4 c = search needs
 
 add-line-3 : tie.Need-add-line-3 Inv-loop μ-loop
 add-line-3 c = search needs
@@ -114,7 +106,7 @@ loop-again c = let l = c .before .before .before .before .before .before .loop i
 returns : tie.Need-returns Inv-loop μ-loop
 returns c = let l = c .before .loop in
     let e : l .x ≡ c .before .before .args .end = omega arith in
-    l .inv .3 ∙ ap (filled 4 _ _) e
+    l .inv .3 ∙ ap (filled columnBytes _ _) e
 
 pub pack-spec : {M : Type 1} → statement M
 pack-spec =
@@ -132,19 +124,16 @@ pack-spec =
     add-four-3
     element-copy-out-four-4
     four-requires
+    mul-at
     array-read-line
-    mul-line
     element-write-line
     array-read-line-2
-    mul-line-2
     add-line
     element-write-line-2
     array-read-line-3
-    mul-line-3
     add-line-2
     element-write-line-3
     array-read-line-4
-    mul-line-4
     add-line-3
     element-write-line-4
     add-x

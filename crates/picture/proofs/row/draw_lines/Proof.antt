@@ -1,3 +1,4 @@
+use Rattle.shown.specs.Lengths.{columnBytes, lineBytes, rowBytes}
 use Rattle.lines.proofs.Drawn.{line-long}
 use Rattle.lines.specs.HowLines.{lineOn}
 use Rattle.basics.proofs.Filled.{front-none, front-lent, front-end, part-length}
@@ -11,7 +12,7 @@ use Rattle.picture.proofs.row.draw_lines.Statement.{statement}
 use Rattle.picture.proofs.row.draw_lines.Tie as tie
 
 abbrev Inv-loop : tie.InvT-loop
-Inv-loop part₀ cells lowers tens pairs n₀ part n = (n ≤ 10) × (length part ≡ 1600) × (take (160 * n) part ≡ joined (lineOn cells lowers tens pairs) n)
+Inv-loop part₀ cells lowers tens pairs n₀ part n = (n ≤ 10) × (length part ≡ rowBytes columnBytes) × (take (lineBytes columnBytes * n) part ≡ joined (lineOn cells lowers tens pairs) n)
 
 abbrev μ-loop : tie.MeasureT-loop
 μ-loop part₀ cells lowers tens pairs n₀ part n = 10 - n
@@ -55,7 +56,7 @@ loop-again c = let k = c .before .before in
     let l = d .before .before .loop in (
       omega arith,
       search (part-length, needs),
-      front-lent 160 _ (l .part) (k .copy-line .last .0) (d .line .result) (l .n) 10 (omega arith) (l .inv .1) (l .inv .2) (k .copy-line .ensures) (d .line .ensures)
+      front-lent (lineBytes columnBytes) _ (l .part) (k .copy-line .last .0) (d .line .result) (l .n) 10 (omega arith) (l .inv .1) (l .inv .2) (k .copy-line .ensures) (d .line .ensures)
           (λ j. line-long _ _ _ _ j),
     )
 
@@ -63,7 +64,7 @@ same-length : tie.Need-same-length Inv-loop μ-loop
 same-length c = search needs
 
 returns : tie.Need-returns Inv-loop μ-loop
-returns c = let l = c .before .loop in front-end 160 _ _ 10 _ (l .inv .2) (l .inv .0) (omega arith) (l .inv .1)
+returns c = let l = c .before .loop in front-end (lineBytes columnBytes) _ _ 10 _ (l .inv .2) (l .inv .0) (omega arith) (l .inv .1)
 
 pub draw-lines-spec : {M : Type 1} → statement M
 draw-lines-spec =

@@ -1,0 +1,52 @@
+-- How the code works out the ten bytes and the four pairs of each cell of a row. Nothing here has to be believed: `drawn-line` of crate
+-- lines shows that the lines made of them have the pixels of the cells.
+-- Assumes nothing.
+use Prim.Native.Nat.{ℕ, _+_}
+use mathlib.Core.Bool.{Bool, true, false}
+use mathlib.Core.List.{List, []}
+use lib.ListN.{getD}
+use Rattle.basics.specs.Choice.{pick}
+use Rattle.basics.specs.Bits.{fromBits}
+use Rattle.basics.specs.Parts.{table}
+use Rattle.shown.specs.declared.Shown.{Shown}
+use Rattle.cell.specs.declared.kind.Cell.{Cell}
+use Rattle.cell.specs.Slices.{sliceOfTwenty, sliceShown}
+use Rattle.cell.specs.Pixels.{takenBit}
+use Rattle.cell.specs.HowPairs.{cellPairs, wideOf}
+use Rattle.page.specs.Sources.{slicesOf}
+use Rattle.page.specs.Inputs.{decoded}
+use Rattle.columns.specs.HowColumns.{sideBySide}
+
+-- the slice of line n of a half of a double height cell
+abbrev pub twentyAt : Bool → Bool → ℕ → ℕ
+twentyAt alphanumeric lower n = sliceOfTwenty alphanumeric (pick lower (10 + n) n)
+
+-- of ten slices those that ten lines show, by their numbers
+abbrev pub byNumber : List ℕ → (ℕ → ℕ) → List ℕ
+byNumber slices number = table (λ n. getD slices (number n) 0) 10
+
+-- of slice n of ten the half that is shown
+abbrev pub doubledOf : List ℕ → Bool → ℕ → ℕ
+doubledOf slices right n = fromBits (takenBit true right (getD slices n 0)) 8
+
+-- the byte of line n of a cell, not underlined yet
+abbrev pub takenAt : List ℕ → List ℕ → Shown → Cell → Bool → Bool → ℕ → ℕ
+takenAt m rom shown cell lower right n =
+    fromBits (takenBit (wideOf cell) right (slicesOf m rom shown cell (sliceShown cell lower n))) 8
+
+unfoldable pub tenOf : List ℕ → List ℕ → Shown → Cell → Bool → Bool → List ℕ
+tenOf m rom shown cell lower right = table (takenAt m rom shown cell lower right) 10
+
+-- the ten bytes of cell x, and those of every cell
+abbrev pub tenAt : List ℕ → List ℕ → Shown → List (List ℕ) → List Bool → List Bool → ℕ → List ℕ
+tenAt m rom shown cells lowers rights x = tenOf m rom shown (decoded (getD cells x [])) (getD lowers x false) (getD rights x false)
+
+abbrev pub tensOf : List ℕ → List ℕ → Shown → List (List ℕ) → List Bool → List Bool → List ℕ
+tensOf m rom shown cells lowers rights = sideBySide (tenAt m rom shown cells lowers rights) 10
+
+-- the four pairs of cell x, and those of every cell
+abbrev pub pairsAt : List (List ℕ) → Shown → ℕ → List ℕ
+pairsAt cells shown x = cellPairs (decoded (getD cells x [])) shown
+
+abbrev pub pairsOf : List (List ℕ) → Shown → List ℕ
+pairsOf cells shown = sideBySide (pairsAt cells shown) 4

@@ -1,0 +1,2 @@
+pub mod HowColumns
+pub mod HowTens

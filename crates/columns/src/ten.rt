@@ -1,0 +1,73 @@
+// The ten bytes of a cell, one for each of its lines: the slice that the line shows, and of it the half that is shown.
+ghost use mathlib.Core.Path.{_≡_};
+ghost use lib.ListN.{length};
+ghost use Rattle.basics.specs.Parts.{table};
+ghost use Rattle.address.specs.Boards.{memoryBytes};
+ghost use Rattle.shown.specs.Lengths.{romBytes};
+ghost use Rattle.cell.specs.HowPairs.{wideOf};
+ghost use Rattle.columns.specs.HowTens.{doubledOf, tenOf, tensOf};
+use crate::column::put_column;
+use crate::slice::shown_slices;
+use cell::decode::decode;
+use cell::kind::Cell;
+use cell::width::doubled;
+use page::source::slices_of;
+use shown::Shown;
+
+pub fn is_wide(cell: Cell) -> bool
+    ensures { λ r. ⌜ r ≡ wideOf cell ⌝ }
+{
+    match cell {
+        Cell::Bichrome(b) => b.wide,
+        Cell::Quadrichrome(_) => false,
+    }
+}
+
+// Of each of ten slices the half that is shown.
+pub fn doubled_slices(right: bool, slices: [u8; 10]) -> [u8; 10]
+    ensures { λ r. ⌜ r ≡ table (doubledOf slices right) 10 ⌝ }
+{
+    let mut ten = [0u8; 10];
+    for n in 0..10 {
+        ten[n] = doubled(right, slices[n]);
+    }
+    ten
+}
+
+pub fn ten_of(
+    memory: &[u8],
+    rom: &[u8],
+    shown: Shown,
+    cell: Cell,
+    lower: bool,
+    right: bool,
+) -> [u8; 10]
+    requires { ⌜ (length (now memory) ≡ memoryBytes) × (length (now rom) ≡ romBytes) ⌝ }
+    ensures { λ r. ⌜ r ≡ tenOf (now (memory .entry)) (now (rom .entry)) shown cell lower right ⌝ }
+{
+    let slices = shown_slices(cell, lower, slices_of(memory, rom, shown, cell));
+    if is_wide(cell) {
+        return doubled_slices(right, slices);
+    }
+    slices
+}
+
+// The ten bytes of each cell of a row, line after line.
+pub fn tens_of(
+    memory: &[u8],
+    rom: &[u8],
+    shown: Shown,
+    cells: [[u8; 3]; 40],
+    lowers: [bool; 40],
+    rights: [bool; 40],
+) -> [u8; 400]
+    requires { ⌜ (length (now memory) ≡ memoryBytes) × (length (now rom) ≡ romBytes) ⌝ }
+    ensures { λ r. ⌜ r ≡ tensOf (now (memory .entry)) (now (rom .entry)) shown cells lowers rights ⌝ }
+{
+    let mut tens = [0u8; 400];
+    for x in 0..40 {
+        let ten = ten_of(memory, rom, shown, decode(cells[x]), lowers[x], rights[x]);
+        put_column(&mut tens, x, &ten);
+    }
+    tens
+}
