@@ -30,6 +30,13 @@ module _ (f : ℕ → Bool) where
   pub any-end : (i n : ℕ) → i ≤ n → n ≤ i → anyBelow f i ≡ false → anyBelow f n ≡ false
   any-end i n h k p = let e : i ≡ n = omega arith in rw (← e) p
 
+  -- a turn of a loop that gathers, and its end
+  pub gathered : (i : ℕ) (found test : Bool) → found ≡ anyBelow f i → test ≡ f i → (found || test) ≡ anyBelow f (i + 1)
+  gathered i found test p q = ap₂ _||_ p q ∙ sym (any-step i)
+
+  pub gathered-end : (i n : ℕ) (found : Bool) → found ≡ anyBelow f i → i ≤ n → n ≤ i → found ≡ anyBelow f n
+  gathered-end i n found p h k = let e : i ≡ n = omega arith in p ∙ ap (anyBelow f) e
+
   -- one that passes is enough
   pub any-hit : (n i : ℕ) → i < n → f i ≡ true → anyBelow f n ≡ true
   unfolding anyBelow

@@ -11,21 +11,17 @@ use Rattle.cell.specs.HowPairs.{underlinedOn, fourBy}
 use Rattle.page.specs.Inputs.{decoded}
 use Rattle.columns.specs.HowColumns.{byteIn}
 
--- cell x shows its lower half
-abbrev pub lowerIn : List Bool → ℕ → Bool
-lowerIn lowers x = getD lowers x false
-
 -- a byte of line n underlined where the cell is
 unfoldable pub linedByte : List ℕ → Bool → ℕ → ℕ → ℕ
 linedByte code lower n byte = pick (underlinedOn (decoded code) lower n) 255 byte
 
 -- the byte of cell x underlined where it is
 abbrev pub linedOn : List (List ℕ) → List Bool → List ℕ → ℕ → ℕ → ℕ
-linedOn cells lowers bytes n x = linedByte (getD cells x []) (lowerIn lowers x) n (getD bytes x 0)
+linedOn cells lowers bytes n x = linedByte (getD cells x []) (getD lowers x false) n (getD bytes x 0)
 
 -- the effective byte of cell x on line n, and those of the line
 abbrev pub byteOn : List (List ℕ) → List Bool → List ℕ → ℕ → ℕ → ℕ
-byteOn cells lowers tens n x = linedByte (getD cells x []) (lowerIn lowers x) n (byteIn tens n x)
+byteOn cells lowers tens n x = linedByte (getD cells x []) (getD lowers x false) n (byteIn tens n x)
 
 unfoldable pub bytesOn : List (List ℕ) → List Bool → List ℕ → ℕ → List ℕ
 bytesOn cells lowers tens n = table (byteOn cells lowers tens n) 40

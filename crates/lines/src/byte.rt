@@ -1,10 +1,9 @@
 // The byte of each cell of a line that the cell's pairs are chosen by: the slice's, or 255 where the cell is underlined.
 ghost use mathlib.Core.Path.{_≡_};
 ghost use Prim.Native.Nat.{_<_};
-ghost use Rattle.basics.specs.Below.{anyBelow};
 ghost use Rattle.basics.specs.Parts.{table};
 ghost use Rattle.columns.specs.HowColumns.{byteIn};
-ghost use Rattle.lines.specs.HowLines.{linedByte, linedOn, lowerIn, bytesOn};
+ghost use Rattle.lines.specs.HowLines.{linedByte, linedOn, bytesOn};
 use cell::decode::decode;
 use cell::height::is_underlined_on;
 
@@ -43,19 +42,7 @@ fn plain_bytes(tens: &[u8; 400], n: usize) -> [u8; 40]
     bytes
 }
 
-// Some cell shows its lower half.
-fn some_lower(lowers: [bool; 40]) -> bool
-    ensures { λ r. ⌜ r ≡ anyBelow (lowerIn lowers) 40 ⌝ }
-{
-    let mut found = false;
-    for x in 0..40 {
-        found = found | lowers[x];
-    }
-    found
-}
-
-// The byte of each cell of line n. No line below 8 shows slice 9, and line 8 does so in a lower half alone: there the cells are not asked for
-// their underline. Each line that is asked is named, so that the compiler knows its number.
+// The byte of each cell of line n. A cell that is underlined shows slice 9 on its last line alone, so that no other line is asked.
 pub fn line_bytes(cells: [[u8; 3]; 40], lowers: [bool; 40], tens: &[u8; 400], n: usize) -> [u8; 40]
     requires { ⌜ n < 10 ⌝ }
     ensures { λ r. ⌜ r ≡ bytesOn cells lowers (now (tens .entry)) n ⌝ }
@@ -63,11 +50,6 @@ pub fn line_bytes(cells: [[u8; 3]; 40], lowers: [bool; 40], tens: &[u8; 400], n:
     let plain = plain_bytes(tens, n);
     if n == 9 {
         return underlined(cells, lowers, plain, 9);
-    }
-    if n == 8 {
-        if some_lower(lowers) {
-            return underlined(cells, lowers, plain, 8);
-        }
     }
     plain
 }

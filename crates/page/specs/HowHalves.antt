@@ -9,7 +9,6 @@ use lib.ListN.{getD}
 use Rattle.shown.specs.declared.Shown.{Shown}
 use Rattle.page.specs.Codes.{rowBuffer}
 use Rattle.page.specs.Halves.{isTall, isWide, goesOn, secondHalf, lowerHalves}
-use Rattle.page.specs.declared.half.Above.{Above}
 
 -- the right half of a cell of a buffer
 abbrev pub rightIn : List (List ℕ) → ℕ → Bool
@@ -23,7 +22,7 @@ goesOnAt here above x = goesOn (isTall (getD here x [])) (getD here x []) (getD 
 abbrev pub nextLowerAt : List (List ℕ) → List (List ℕ) → List Bool → ℕ → Bool
 nextLowerAt here above lowers x = goesOnAt here above x && not (getD lowers x false)
 
--- where it is known, this is the row buffer of the row above row r, with its lower halves
-abbrev pub KnownAbove : Shown → List ℕ → ℕ → List (List ℕ) → Above → Type 0
-KnownAbove shown m r cells above =
-    above .known ≡ true → (0 < r) × (cells ≡ rowBuffer shown m (r - 1)) × (above .lowers ≡ lowerHalves shown m (r - 1))
+-- where they are known, these are the row buffer and the lower halves of the row above row r
+abbrev pub KnownAbove : Shown → List ℕ → ℕ → Bool → List (List ℕ) → List Bool → Type 0
+KnownAbove shown m r known above lowers =
+    known ≡ true → (0 < r) × (above ≡ rowBuffer shown m (r - 1)) × (lowers ≡ lowerHalves shown m (r - 1))

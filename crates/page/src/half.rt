@@ -107,27 +107,21 @@ pub fn lower_halves(memory: &[u8], shown: Shown, row: u8, here: [[u8; 3]; 40]) -
     [false; 40]
 }
 
-// The lower halves of the row above, where they are known. Its row buffer goes beside.
-pub struct Above {
-    pub known: bool,
-    pub lowers: [bool; 40],
-}
-
 // The lower halves of a row, by one step where the row above is known with its own.
 pub fn lower_halves_after(
     memory: &[u8],
     shown: Shown,
     row: u8,
     here: [[u8; 3]; 40],
-    cells: [[u8; 3]; 40],
-    above: Above,
+    known: bool,
+    above: [[u8; 3]; 40],
+    lowers: [bool; 40],
 ) -> [bool; 40]
-    requires { ⌜ (length (now memory) ≡ memoryBytes) × (here ≡ rowBuffer shown (now memory) row) × KnownAbove shown (now memory) row cells above ⌝ }
+    requires { ⌜ (length (now memory) ≡ memoryBytes) × (here ≡ rowBuffer shown (now memory) row) × KnownAbove shown (now memory) row known above lowers ⌝ }
     ensures { λ r. ⌜ r ≡ lowerHalves shown (now (memory .entry)) row ⌝ }
 {
-    if above.known {
-        let lowers = above.lowers;
-        return next_lowers(here, cells, lowers);
+    if known {
+        return next_lowers(here, above, lowers);
     }
     lower_halves(memory, shown, row, here)
 }

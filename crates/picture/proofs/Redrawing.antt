@@ -69,12 +69,12 @@ module _
 
 -- what the loop knows of the row above: nothing, or the row that it has just drawn
 module _ (m : List ℕ) (shown : Shown) (r : ℕ) where
-  pub not-known : (cells : List (List ℕ)) (lowers : List Bool) → KnownAbove shown m r cells (record { known = false; lowers = lowers })
+  pub not-known : (cells : List (List ℕ)) (lowers : List Bool) → KnownAbove shown m r false cells lowers
   not-known cells lowers e = absurd (false≢true e)
 
   pub known-next :
       (cells : List (List ℕ)) (lowers : List Bool)
-      → cells ≡ rowBuffer shown m r → lowers ≡ lowerHalves shown m r → KnownAbove shown m (r + 1) cells (record { known = true; lowers = lowers })
+      → cells ≡ rowBuffer shown m r → lowers ≡ lowerHalves shown m r → KnownAbove shown m (r + 1) true cells lowers
   known-next cells lowers b h e =
       let back : r + 1 - 1 ≡ r = omega arith in
       (omega arith, b ∙ ap (rowBuffer shown m) (sym back), h ∙ ap (lowerHalves shown m) (sym back))

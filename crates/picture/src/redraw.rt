@@ -7,7 +7,6 @@ ghost use Rattle.page.specs.Marks.{markedRows};
 ghost use Rattle.picture.specs.Redraws.{redrawn};
 use crate::row::draw_row;
 use page::code::row_buffer;
-use page::half::Above;
 use page::half::lower_halves_after;
 use shown::Shown;
 use shown::length::ROW_BYTES;
@@ -24,18 +23,16 @@ pub fn redraw(
     ensures { λ n. ⌜ (now (picture .exit) ≡ redrawn marks (now (picture .entry)) (now (memory .entry)) (now (rom .entry)) shown) × (n ≡ markedRows marks 25) ⌝ }
 {
     let mut rows = 0;
-    let mut cells = [[0u8; 3]; 40];
-    let mut above = Above {
-        known: false,
-        lowers: [false; 40],
-    };
+    let mut known = false;
+    let mut above = [[0u8; 3]; 40];
+    let mut halves = [false; 40];
     for r in 0..25 {
         if !marks[r] {
-            above.known = false;
+            known = false;
             continue;
         }
         let here = row_buffer(memory, shown, r as u8);
-        let lowers = lower_halves_after(memory, shown, r as u8, here, cells, above);
+        let lowers = lower_halves_after(memory, shown, r as u8, here, known, above, halves);
         draw_row(
             &mut picture[ROW_BYTES * r..ROW_BYTES * r + ROW_BYTES],
             memory,
@@ -44,11 +41,9 @@ pub fn redraw(
             here,
             lowers,
         );
-        cells = here;
-        above = Above {
-            known: true,
-            lowers,
-        };
+        above = here;
+        halves = lowers;
+        known = true;
         rows += 1;
     }
     rows

@@ -120,11 +120,8 @@ module _ (address : ℕ) where
   pub low-three : bits 0 3 address ≡ address % 8
   low-three = omega arith
 
-  pub high-two : address < 256 → address / 16 ≡ 2 → eqb (bits 4 4 address) 2 ≡ true
-  high-two l h = let b : bits 4 4 address ≡ 2 = omega arith in eq-eqb _ _ b
-
-  pub high-other : address < 256 → (address / 16 ≡ 2 → ⊥) → eqb (bits 4 4 address) 2 ≡ false
-  high-other l h = let b : bits 4 4 address ≡ 2 → ⊥ = λ e. h (omega arith) in ne-eqb _ _ b
+  pub high-bits : address < 256 → eqb (bits 4 4 address) 2 ≡ eqb (address / 16) 2
+  high-bits l = let e : bits 4 4 address ≡ address / 16 = omega arith in rw e
 
 -- a legal pointer, from what the code learnt
 pub pointer-legal :

@@ -1,37 +1,65 @@
 -- The ways of an access, a phase change and an IND: one law for each end of the code, from what the code learnt on the way.
 -- Assumes nothing.
 use Prim.Native.Nat.{ℕ, _/_, _<_, _≤_}
-use mathlib.Core.Path.{_≡_, refl, ap, _∙_}
-use mathlib.Core.Bool.{Bool, true, false, not, _&&_}
+use mathlib.Core.Path.{_≡_, refl, sym, ap, _∙_}
+use mathlib.Core.Bool.{Bool, true, false, not, _&&_, _||_, false≢true}
 use mathlib.Core.List.{List}
 use lib.Dec.{eqb, leb}
 use lib.ListN.{length, getD, set}
-use borrow.Author.Tests.{eq-eqb, ne-eqb, le-leb, lt-leb}
+use borrow.Author.Tests.{eq-eqb, ne-eqb, le-leb, lt-leb, eqb-true, not-false}
+use Rattle.basics.specs.Bits.{bits}
+use Rattle.basics.proofs.Choice.{or-neither}
 use Rattle.basics.specs.Choice.{pick}
 use Rattle.address.specs.Boards.{memoryBytes}
 use Rattle.shown.specs.declared.Shown.{Shown}
 use Rattle.page.specs.Marks.{allMarked}
 use Rattle.reading.specs.Marks.{phaseMarks}
+use Rattle.command.specs.declared.answer.Answer.{Answer}
 use Rattle.command.specs.declared.answer.Answer.the-variants.{Accepted, WrongMemory, WrongAddress, WrongPhase}
 use Rattle.processor.specs.declared.state.Processor.{Processor}
 use Rattle.processor.specs.States.{Chip, chip, registerOf, shownOf, withIndirect, withPhase, indirectWritten}
 use Rattle.processor.specs.Access.{Outcome, outcome, checked, phased, turned}
-use Rattle.processor.proofs.Laws.{high-two, high-other}
+use Rattle.processor.proofs.Laws.{high-bits}
 
--- an access: refused with 1, refused with 2, and done
-module _ (address : ℕ) (k : Chip) (done : Outcome) where
-  pub memory-refused : (length (k .memory) ≡ memoryBytes → ⊥) → outcome k WrongMemory ≡ checked address k done
-  unfolding checked
-  memory-refused n = rw (ne-eqb _ _ n)
+-- the head of an access: the memory's length, and the address's high bits
+module _ (memory address : ℕ) where
+  abbrev Refused : Bool
+  Refused = not (eqb memory memoryBytes) || not (eqb (bits 4 4 address) 2)
 
-  pub address-refused :
-      length (k .memory) ≡ memoryBytes → address < 256 → (address / 16 ≡ 2 → ⊥) → outcome k WrongAddress ≡ checked address k done
-  unfolding checked
-  address-refused e l n = rw (eq-eqb _ _ e, high-other address l n)
+  pub memory-wrong : (memory ≡ memoryBytes → ⊥) → true ≡ Refused
+  memory-wrong n = rw (ne-eqb _ _ n)
 
-  pub access-done : length (k .memory) ≡ memoryBytes → address < 256 → address / 16 ≡ 2 → done ≡ checked address k done
+  pub address-asked : memory ≡ memoryBytes → address < 256 → not (eqb (address / 16) 2) ≡ Refused
+  address-asked e l = rw (eq-eqb _ _ e, high-bits address l)
+
+  pub memory-whole : (b : Bool) → b ≡ Refused → b ≡ false → memory ≡ memoryBytes
+  memory-whole b e f = eqb-true memory memoryBytes (not-false _ (or-neither _ _ (sym e ∙ f)))
+
+-- an access: refused, and done
+module _ (address : ℕ) (k : Chip) (done : Outcome) (b : Bool) (learnt : b ≡ Refused (length (k .memory)) address) where
+  pub access-refused :
+      b ≡ true → (answer : Answer) → answer ≡ pick (eqb (length (k .memory)) memoryBytes) WrongAddress WrongMemory →
+      outcome k answer ≡ checked address k done
   unfolding checked
-  access-done e l h = rw (eq-eqb _ _ e, high-two address l h)
+  access-refused t answer e = ap (outcome k) e ∙ go (eqb (length (k .memory)) memoryBytes) (eqb (bits 4 4 address) 2) (sym learnt ∙ t)
+    where
+      go :
+          (whole chosen : Bool) → (not whole || not chosen) ≡ true →
+          outcome k (pick whole WrongAddress WrongMemory) ≡ pick whole (pick chosen done (outcome k WrongAddress)) (outcome k WrongMemory)
+      go true true r = absurd (false≢true r)
+      go true false r = refl
+      go false chosen r = refl
+
+  pub access-done : b ≡ false → done ≡ checked address k done
+  unfolding checked
+  access-done f = go (eqb (length (k .memory)) memoryBytes) (eqb (bits 4 4 address) 2) (sym learnt ∙ f)
+    where
+      go :
+          (whole chosen : Bool) → (not whole || not chosen) ≡ false →
+          done ≡ pick whole (pick chosen done (outcome k WrongAddress)) (outcome k WrongMemory)
+      go true true r = refl
+      go true false r = absurd (false≢true (sym r))
+      go false chosen r = absurd (false≢true (sym r))
 
 -- a phase change: refused with 1, refused with 9, the present phase, and another
 module _ (n : ℕ) (k : Chip) where

@@ -1,8 +1,13 @@
 // Register accesses and the phase change.
 ghost use mathlib.Core.Path.{_≡_};
-ghost use lib.ListN.{length};
+ghost use mathlib.Core.Bool.{not, _||_};
+ghost use lib.Dec.{eqb};
+ghost use Rattle.basics.specs.Bits.{bits};
+ghost use Rattle.basics.specs.Choice.{pick};
+ghost use Rattle.address.specs.Boards.{memoryBytes};
+ghost use Rattle.command.specs.declared.answer.Answer.the-variants.{WrongMemory, WrongAddress};
 ghost use Rattle.processor.specs.States.{chip};
-ghost use Rattle.processor.specs.Access.{outcomeOf, executed, checked, written, readOut, turned};
+ghost use Rattle.processor.specs.Access.{outcomeOf, written, readOut, turned};
 use crate::execute::Answered;
 use crate::execute::execute;
 use crate::state::Processor;
@@ -10,29 +15,30 @@ use address::board::MEMORY_BYTES;
 use command::answer::Answer;
 use reading::phase::phase_marks;
 
-// An access that has the state `before`, and leaves `after` and the value before its command. Refused by 1 or 2, it has not taken place.
-fn checked_access(
-    before: Processor,
-    after: Processor,
-    memory: &mut [u8],
-    address: u8,
-    value: u8,
-) -> Answered
-    ensures { λ r. ⌜ outcomeOf r (now (memory .exit)) ≡ checked address (chip before (now (memory .entry))) (executed address value (chip after (now (memory .entry)))) ⌝ }
+// An access is refused by 1 or 2, before it takes place.
+fn is_refused(memory: usize, address: u8) -> bool
+    ensures { λ r. ⌜ r ≡ (not (eqb memory memoryBytes) || not (eqb (bits 4 4 address) 2)) ⌝ }
 {
-    if memory.len() != MEMORY_BYTES {
+    if memory != MEMORY_BYTES {
+        return true;
+    }
+    address / 16 != 2
+}
+
+// Which of the two, in their order. The state is handed back as it was.
+fn refused(p: Processor, memory: usize) -> Answered
+    ensures { λ r. ⌜ (r .processor ≡ p) × (r .answer ≡ pick (eqb memory memoryBytes) WrongAddress WrongMemory) ⌝ }
+{
+    if memory != MEMORY_BYTES {
         return Answered {
-            processor: before,
+            processor: p,
             answer: Answer::WrongMemory,
         };
     }
-    if address / 16 != 2 {
-        return Answered {
-            processor: before,
-            answer: Answer::WrongAddress,
-        };
+    Answered {
+        processor: p,
+        answer: Answer::WrongAddress,
     }
-    execute(after, memory, address, value)
 }
 
 impl Processor {
@@ -40,16 +46,22 @@ impl Processor {
     pub fn write(mut self, memory: &mut [u8], address: u8, value: u8) -> Answered
         ensures { λ r. ⌜ outcomeOf r (now (memory .exit)) ≡ written address value (chip self (now (memory .entry))) ⌝ }
     {
+        if is_refused(memory.len(), address) {
+            return refused(self, memory.len());
+        }
         let next = self.with_register(address % 8, value);
-        checked_access(self, next, memory, address, 0)
+        execute(next, memory, address, 0)
     }
 
     // A register is read; then the command runs, if the address asks for it, and may store.
     pub fn read(mut self, memory: &mut [u8], address: u8) -> Answered
         ensures { λ r. ⌜ outcomeOf r (now (memory .exit)) ≡ readOut address (chip self (now (memory .entry))) ⌝ }
     {
+        if is_refused(memory.len(), address) {
+            return refused(self, memory.len());
+        }
         let value = self.register(address % 8);
-        checked_access(self, self, memory, address, value)
+        execute(self, memory, address, value)
     }
 
     // The phase change.

@@ -182,12 +182,13 @@ module _ (shown : Shown) (drawn : Bool) (learnt : drawn ≡ canDraw shown) where
     unfolding storeMarks
     store-refused e = rw (sym learnt ∙ e)
 
-    pub store-same : (q : ℕ) → q ≡ p → drawn ≡ true → getD m q 0 ≡ v → marks ≡ storeMarks shown m p v marks
-    unfolding storeMarks
-    store-same q at e same = rw (sym learnt ∙ e, ← at, eq-eqb (getD m q 0) v same)
-
     pub store-asked :
         (q : ℕ) → q ≡ p → drawn ≡ true → (getD m q 0 ≡ v → ⊥) → (after : List Bool) → after ≡ markedToo (onList shown m p) marks
         → after ≡ storeMarks shown m p v marks
     unfolding storeMarks
     store-asked q at e other after made = made ∙ rw (sym learnt ∙ e, ← at, ne-eqb (getD m q 0) v other)
+
+-- a store of the byte that is there marks nothing, whether a draw would get 7 or 8 or not
+pub store-same : (shown : Shown) (m : List ℕ) (p v : ℕ) (marks : List Bool) (q : ℕ) → q ≡ p → getD m q 0 ≡ v → marks ≡ storeMarks shown m p v marks
+unfolding storeMarks
+store-same shown m p v marks q at same = rw (← at, eq-eqb (getD m q 0) v same, and-false (canDraw shown))

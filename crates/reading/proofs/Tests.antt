@@ -5,7 +5,7 @@ use mathlib.Core.Path.{_≡_, refl, sym, ap, ap₂, _∙_}
 use mathlib.Core.Bool.{Bool, true, false, not, _||_, or-false, or-assoc}
 use native.Mathlib.Omega.{arith}
 use Rattle.basics.specs.Below.{anyBelow}
-use Rattle.basics.proofs.Below.{any-step, any-same}
+use Rattle.basics.proofs.Below.{any-same}
 
 -- two tests that hold together
 pub together : (a b : Bool) → (a ≡ true → b ≡ true) → (b ≡ true → a ≡ true) → a ≡ b
@@ -27,10 +27,6 @@ marked-first false false false true = refl
 marked-first false false false false = refl
 
 module _ (f : ℕ → Bool) where
-  -- a turn of a loop that gathers
-  pub gathered : (i : ℕ) (found test : Bool) → found ≡ anyBelow f i → test ≡ f i → (found || test) ≡ anyBelow f (i + 1)
-  gathered i found test p q = ap₂ _||_ p q ∙ sym (any-step f i)
-
   -- none passes
   pub any-never : (n : ℕ) → ((i : ℕ) → i < n → f i ≡ false) → anyBelow f n ≡ false
   unfolding anyBelow
@@ -50,7 +46,7 @@ module _ (f : ℕ → Bool) where
       ∙ ap (λ (t : Bool). t || f (a + b)) (any-split a b)
       ∙ or-assoc (anyBelow f a) (anyBelow (λ i. f (a + i)) b) (f (a + b))
 
-  -- the two runs of a row
-  pub row-runs : (left right : Bool) → left ≡ anyBelow (λ i. f (0 + i)) 32 → right ≡ anyBelow (λ i. f (32 + i)) 8 → (left || right) ≡ anyBelow f 40
-  row-runs left right p q =
+  -- the two stretches of a row
+  pub row-stretches : (left right : Bool) → left ≡ anyBelow (λ i. f (0 + i)) 32 → right ≡ anyBelow (λ i. f (32 + i)) 8 → (left || right) ≡ anyBelow f 40
+  row-stretches left right p q =
       ap₂ _||_ (p ∙ any-same (λ i. f (0 + i)) f 32 (λ i l. ap f (omega arith))) q ∙ sym (any-split 32 8)

@@ -68,11 +68,11 @@ pub fn store_marks(
     requires { ⌜ (length (now memory) ≡ memoryBytes) × (legal at ≡ true) ⌝ }
     ensures { λ r. ⌜ r ≡ storeMarks shown (now (memory .entry)) (placeOf (at .x) (at .y) (at .z)) value marks ⌝ }
 {
+    let p = place(at);
+    if memory[p] == value {
+        return marks;
+    }
     if shown.can_draw() {
-        let p = place(at);
-        if memory[p] == value {
-            return marks;
-        }
         return list_marks(marks, shown, memory, at);
     }
     marks

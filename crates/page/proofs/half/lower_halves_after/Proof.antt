@@ -9,7 +9,7 @@ next-lowers-requires : tie.Need-next-lowers-requires
 next-lowers-requires c κs = search needs
 
 returns : tie.Need-returns
-returns c = let i = c .before .before in
+returns c = let i = c .before in
     let s = i .before .before in
     let k = s .pre .2 (i .if1 .taken) in
     c .next-lowers .ensures ∙ lower-next (s .args .shown) _ _ (λ e. omega (arith, k .0)) _ _ (s .pre .1) (k .1) _ (k .2)

@@ -11,10 +11,10 @@ use Rattle.picture.proofs.redraw.redraw.Statement.{statement}
 use Rattle.picture.proofs.redraw.redraw.Tie as tie
 
 abbrev Inv-loop : tie.InvT-loop
-Inv-loop picture₀ memory rom shown marks rows₀ cells₀ above₀ r₀ picture rows cells above r = DrawnTo columnBytes marks picture₀ (rowOf memory rom shown) picture rows r × KnownAbove shown memory r cells above
+Inv-loop picture₀ memory rom shown marks rows₀ known₀ above₀ halves₀ r₀ picture rows known above halves r = DrawnTo columnBytes marks picture₀ (rowOf memory rom shown) picture rows r × KnownAbove shown memory r known above halves
 
 abbrev μ-loop : tie.MeasureT-loop
-μ-loop picture₀ memory rom shown marks rows₀ cells₀ above₀ r₀ picture rows cells above r = 25 - r
+μ-loop picture₀ memory rom shown marks rows₀ known₀ above₀ halves₀ r₀ picture rows known above halves r = 25 - r
 
 loop-holds : tie.Need-loop-holds Inv-loop μ-loop
 loop-holds c = let a = c .before .before .before in (start _ _ _ _ (a .pre .0), not-known (a .args .memory .now) (a .args .shown) _ _ _)

@@ -1,7 +1,7 @@
 use mathlib.Core.Path.{sym, _∙_}
 use native.Mathlib.Omega.{arith}
 use Rattle.reading.proofs.Rows.{no-character, no-source}
-use Rattle.reading.proofs.Tests.{row-runs}
+use Rattle.reading.proofs.Tests.{row-stretches}
 use borrow.Author.Needs.{needs}
 use Rattle.reading.proofs.row.has_keyed.Statement.{statement}
 use Rattle.reading.proofs.row.has_keyed.Tie as tie
@@ -19,7 +19,7 @@ some-keyed-requires-2 : tie.Need-some-keyed-requires-2
 some-keyed-requires-2 c κs = search needs
 
 returns : tie.Need-returns
-returns c = row-runs _ _ _ (c .before .some-keyed .ensures) (c .some-keyed2 .ensures)
+returns c = row-stretches _ _ _ (c .before .some-keyed .ensures) (c .some-keyed2 .ensures)
 
 returns-2 : tie.Need-returns-2
 returns-2 c = no-character _ _ 40 (sym (c .before .has-character .ensures) ∙ c .if2 .left)

@@ -5,7 +5,7 @@ use native.Mathlib.Omega.{arith}
 use Rattle.basics.specs.Below.{anyBelow}
 use Rattle.page.specs.Codes.{codeOf}
 use Rattle.reading.specs.HowAsked.{showsCharacter}
-use Rattle.reading.proofs.Tests.{gathered}
+use Rattle.basics.proofs.Below.{gathered}
 use Rattle.reading.proofs.Rows.{stretch-fits, stretch-c, character-test}
 use borrow.Author.Needs.{needs}
 use Rattle.reading.proofs.stretch.some_character.Statement.{statement}

@@ -1,24 +1,46 @@
 use Rattle.processor.proofs.Laws.{low-three}
+use Rattle.processor.proofs.Ways.{memory-whole, access-refused, access-done}
 use Rattle.processor.specs.Access.{written}
+use mathlib.Core.Path.{_∙_}
 use borrow.Author.Needs.{needs}
 use Rattle.processor.proofs.state.Processor.write.Statement.{statement}
 use Rattle.processor.proofs.state.Processor.write.Tie as tie
 
+is-refused-requires : tie.Need-is-refused-requires
+is-refused-requires c κs = search needs
+
+refused-requires : tie.Need-refused-requires
+refused-requires c κs = search needs
+
+returns : tie.Need-returns
+unfolding written
+returns c = let h = c .before .before in rw (c .refused .ensures .0) (access-refused _ _ _ _ (h .is-refused .ensures) (c .before .if1 .taken) _ (c .refused .ensures .1))
+
 with-register-requires : tie.Need-with-register-requires
 with-register-requires c κs = search needs
 
-checked-access-requires : tie.Need-checked-access-requires
-checked-access-requires c κs = search needs
+execute-requires : tie.Need-execute-requires
+execute-requires c κs = let e = c .before .before in memory-whole _ (e .before .before .before .args .address) _ (e .before .is-refused .ensures) (e .if1 .left)
 
 same-length : tie.Need-same-length
 same-length c = search needs
 
-returns : tie.Need-returns
+returns-2 : tie.Need-returns-2
 unfolding written
-returns c = let a = c .before .before in
-    let w = a .before .before in
-    rw (low-three (w .before .before .args .address), ← w .with-register .ensures) (a .checked-access .ensures)
+returns-2 c = let r = c .before .before in
+    let g = r .before .before in
+    let e = g .before in
+    let s = e .before .before .before in
+    rw (low-three (s .args .address), ← g .with-register .ensures) (r .execute .ensures ∙ access-done _ _ _ _ (e .before .is-refused .ensures) (e .if1 .left))
 
 pub write-spec : {M : Type 1} → statement M
 write-spec =
-    tie.close (tie.spec with-register-requires checked-access-requires same-length returns)
+    tie.close
+    (tie.spec
+    is-refused-requires
+    refused-requires
+    returns
+    with-register-requires
+    execute-requires
+    same-length
+    returns-2)
