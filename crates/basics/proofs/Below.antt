@@ -99,6 +99,12 @@ module _ (f : ℕ → Bool) where
   count-at-most zero = omega arith
   count-at-most (suc n) = omega (arith, count-at-most n, one-at-most (f n))
 
+  -- none passes
+  pub count-never : (n : ℕ) → ((i : ℕ) → i < n → f i ≡ false) → countBelow f n ≡ 0
+  unfolding countBelow
+  count-never zero h = refl
+  count-never (suc n) h = rw (count-never n (λ i k. h i (omega arith)), h n (omega arith))
+
   pub count-step : (i : ℕ) → countBelow f (i + 1) ≡ countBelow f i + oneIf (f i)
   unfolding countBelow
   count-step i = rw add-one

@@ -9,12 +9,14 @@ use mathlib.Core.List.{List}
 use mathlib.Core.Logic.{⊎-elim}
 use native.Mathlib.Omega.{arith}
 use lib.ListN.{length}
+use lib.Seq.{take-all}
 use borrow.Rule.Slice.PartMut.{putMid, midOf, same-len-mid}
 use Rattle.basics.specs.Choice.{pick, oneIf}
+use Rattle.basics.specs.Below.{anyBelow}
 use Rattle.basics.specs.Parts.{partOf}
 use Rattle.basics.proofs.Choice.{bool-cases}
-use Rattle.basics.proofs.Below.{count-none, count-step}
-use Rattle.basics.proofs.Parts.{Each, joined-same, joined-part}
+use Rattle.basics.proofs.Below.{any-not, count-none, count-step}
+use Rattle.basics.proofs.Parts.{Each, joined-same, joined-part, parts-joined}
 use Rattle.basics.proofs.Filled.{filled, filled-none, filled-part, filled-keep, filled-end}
 use Rattle.shown.specs.Lengths.{rowBytes, pictureBytes}
 use Rattle.lines.proofs.Lengths.{rows-long, part-long}
@@ -46,6 +48,13 @@ module _ (k : ℕ) (marks : List Bool) (picture : List ℕ) (row : ℕ → List 
   -- with every row marked, whatever the picture was
   pub redrawn-rows-all : ((r : ℕ) → r < 25 → isMarked marks r ≡ true) → redrawnRows k marks picture row ≡ freshRows row
   redrawn-rows-all h = redrawn-rows-fresh (λ r l e. absurd (false≢true (sym e ∙ h r l)))
+
+  -- with none marked, it stays as it was
+  pub redrawn-rows-none : anyBelow (isMarked marks) 25 ≡ false → length picture ≡ pictureBytes k → picture ≡ redrawnRows k marks picture row
+  unfolding redrawnRows
+  redrawn-rows-none none h =
+      sym (parts-joined (rowBytes k) picture 25 (omega arith) ∙ take-all (rowBytes k * 25) picture (omega arith))
+      ∙ joined-same _ _ 25 (λ r l. row-kept r (any-not (isMarked marks) 25 r none l))
 
 -- a row of the fresh picture
 pub fresh-rows-part :

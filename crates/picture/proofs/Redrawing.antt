@@ -7,7 +7,9 @@ use mathlib.Core.List.{List}
 use native.Mathlib.Omega.{arith}
 use lib.ListN.{length}
 use borrow.Rule.Slice.PartMut.{putMid, midOf}
+use Rattle.basics.specs.Below.{anyBelow}
 use Rattle.basics.specs.Parts.{partOf}
+use Rattle.basics.proofs.Below.{any-not, count-never}
 use Rattle.basics.proofs.Parts.{length-table}
 use Rattle.shown.specs.declared.Shown.{Shown}
 use Rattle.shown.specs.Lengths.{columnBytes, lineBytes, rowBytes, pictureBytes}
@@ -22,7 +24,7 @@ use Rattle.picture.specs.HowRows.{inputsOf}
 use Rattle.page.specs.Marks.{isMarked, markedRows}
 use Rattle.picture.specs.Redraws.{redrawn, fresh}
 use Rattle.picture.proofs.Drawn.{inputs-row}
-use Rattle.picture.proofs.AnyRows.{redrawn-rows-long, redrawn-rows-fresh, redrawn-rows-all, fresh-rows-part, DrawnTo, drew, end}
+use Rattle.picture.proofs.AnyRows.{redrawn-rows-long, redrawn-rows-fresh, redrawn-rows-all, redrawn-rows-none, fresh-rows-part, DrawnTo, drew, end}
 
 -- the lengths of a line and a row, whatever they are painted from
 pub painted-line-long : (rom : List ℕ) (shown : Shown) (inputs : List CellInput) (n : ℕ) → length (paintedLine rom shown inputs n) ≡ lineBytes columnBytes
@@ -43,6 +45,17 @@ module _ (marks : List Bool) (picture m rom : List ℕ) (shown : Shown) where
       → redrawn marks picture m rom shown ≡ fresh m rom shown
   unfolding redrawn fresh
   redrawn-fresh h = redrawn-rows-fresh columnBytes marks picture (rowOf m rom shown) h
+
+  -- with none marked, it stays as it was, and none is counted
+  pub redrawn-none :
+      (b : Bool) → b ≡ anyBelow (isMarked marks) 25 → b ≡ false → length picture ≡ pictureBytes columnBytes →
+      (picture ≡ redrawn marks picture m rom shown) × (0 ≡ markedRows marks 25)
+  unfolding redrawn
+  redrawn-none b e f h =
+      let none = sym e ∙ f in (
+        redrawn-rows-none columnBytes marks picture (rowOf m rom shown) none h,
+        sym (count-never (isMarked marks) 25 (λ r l. any-not (isMarked marks) 25 r none l)),
+      )
 
   pub redrawn-all : ((r : ℕ) → r < 25 → isMarked marks r ≡ true) → redrawn marks picture m rom shown ≡ fresh m rom shown
   unfolding redrawn fresh

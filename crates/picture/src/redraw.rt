@@ -1,9 +1,10 @@
 // The redrawing of the marked rows: no other byte changes.
 ghost use mathlib.Core.Path.{_≡_};
 ghost use lib.ListN.{length};
+ghost use Rattle.basics.specs.Below.{anyBelow};
 ghost use Rattle.address.specs.Boards.{memoryBytes};
 ghost use Rattle.shown.specs.Lengths.{romBytes, columnBytes, pictureBytes};
-ghost use Rattle.page.specs.Marks.{markedRows};
+ghost use Rattle.page.specs.Marks.{isMarked, markedRows};
 ghost use Rattle.picture.specs.Redraws.{redrawn};
 use crate::row::draw_row;
 use page::code::row_buffer;
@@ -11,8 +12,19 @@ use page::half::lower_halves_after;
 use shown::Shown;
 use shown::length::ROW_BYTES;
 
-// Returns the number of marked rows. The row buffer and the lower halves of a row that was just drawn are kept for the row below it.
-pub fn redraw(
+// Some row is marked.
+fn some_marked(marks: [bool; 25]) -> bool
+    ensures { λ r. ⌜ r ≡ anyBelow (isMarked marks) 25 ⌝ }
+{
+    let mut found = false;
+    for r in 0..25 {
+        found = found | marks[r];
+    }
+    found
+}
+
+// Row by row. The row buffer and the lower halves of a row that was just drawn are kept for the row below it.
+fn redraw_rows(
     picture: &mut [u8],
     memory: &[u8],
     rom: &[u8],
@@ -47,4 +59,21 @@ pub fn redraw(
         rows += 1;
     }
     rows
+}
+
+// Returns the number of marked rows. Most draws of a panel that waits find none, and are done at once.
+pub fn redraw(
+    picture: &mut [u8],
+    memory: &[u8],
+    rom: &[u8],
+    shown: Shown,
+    marks: [bool; 25],
+) -> usize
+    requires { ⌜ (length (now picture) ≡ pictureBytes columnBytes) × (length (now memory) ≡ memoryBytes) × (length (now rom) ≡ romBytes) ⌝ }
+    ensures { λ n. ⌜ (now (picture .exit) ≡ redrawn marks (now (picture .entry)) (now (memory .entry)) (now (rom .entry)) shown) × (n ≡ markedRows marks 25) ⌝ }
+{
+    if some_marked(marks) {
+        return redraw_rows(picture, memory, rom, shown, marks);
+    }
+    0
 }
