@@ -1,7 +1,7 @@
 -- What the page claims of places, for every Z: different legal triples have different places, bytes 40..63 of a block are the place
 -- of none, and a legal triple's place lies in its own block. On a board of n blocks a legal place is one of its bytes.
 -- Assumes nothing.
-use Prim.Native.Nat.{ℕ, _+_, _-_, _*_, _/_, _%_, _≤_, _<_}
+use Prim.Native.Nat.{ℕ, _+_, _*_, _/_, _%_, _≤_, _<_}
 use mathlib.Core.Path.{_≡_}
 use mathlib.Core.Bool.{true}
 use mathlib.Core.Logic.{⊎-elim}

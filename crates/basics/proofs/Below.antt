@@ -3,7 +3,7 @@
 use Prim.Native.Nat.{ℕ, zero, suc, _+_, _<_, _≤_}
 use mathlib.Core.Bool.{Bool, true, false, _||_, false≢true}
 use mathlib.Core.Path.{_≡_, refl, ap, ap₂, sym, _∙_}
-use mathlib.Core.Logic.{_⊎_, inl, inr, ⊎-elim}
+use mathlib.Core.Logic.{⊎-elim}
 use native.Mathlib.Numerals.{add-one}
 use native.Mathlib.Omega.{arith}
 use Rattle.basics.specs.Choice.{pick, oneIf}
@@ -22,13 +22,6 @@ module _ (f : ℕ → Bool) where
   pub any-step : (i : ℕ) → anyBelow f (i + 1) ≡ (anyBelow f i || f i)
   unfolding anyBelow
   any-step i = rw add-one
-
-  -- a turn that finds nothing
-  pub any-more : (i : ℕ) → anyBelow f i ≡ false → f i ≡ false → anyBelow f (i + 1) ≡ false
-  any-more i p q = any-step i ∙ ap₂ _||_ p q
-
-  pub any-end : (i n : ℕ) → i ≤ n → n ≤ i → anyBelow f i ≡ false → anyBelow f n ≡ false
-  any-end i n h k p = let e : i ≡ n = omega arith in rw (← e) p
 
   -- a turn of a loop that gathers, and its end
   pub gathered : (i : ℕ) (found test : Bool) → found ≡ anyBelow f i → test ≡ f i → (found || test) ≡ anyBelow f (i + 1)

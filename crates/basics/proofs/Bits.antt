@@ -1,6 +1,6 @@
 -- Laws of bits: those of a number that is made of its bits, and the fields of a byte.
 -- Assumes nothing.
-use Prim.Native.Nat.{ℕ, zero, suc, _+_, _-_, _*_, _/_, _%_, _^_, _<_, _≤_}
+use Prim.Native.Nat.{ℕ, zero, suc, _+_, _-_, _*_, _/_, _%_, _^_, _<_}
 use mathlib.Core.Path.{_≡_, refl, sym, ap, _∙_}
 use mathlib.Core.Bool.{Bool, true, false}
 use mathlib.Core.Logic.{⊎-elim}
@@ -8,7 +8,6 @@ use native.Mathlib.Nat.{pow-suc, div-eq-of-lt, add-mul-div-left, add-mul-mod-sel
 use native.Mathlib.Omega.{arith}
 use lib.Dec.{eqb}
 use lib.Pow.{pow-pos, pow-add}
-use Rattle.basics.specs.Choice.{oneIf}
 use Rattle.basics.specs.Bits.{isSet, bits, fromBits}
 use Rattle.basics.proofs.Choice.{eq-or-ne}
 use Rattle.basics.proofs.Computed.{agree, agree-test2}

@@ -2,14 +2,14 @@
 -- Of an array made by the function itself only its front is known, `take (k * i) xs`; of a lent slice the rest too, `filled`.
 -- The premises are what a loop's invariant, its test and its callees' contracts give, so that a search finds them.
 -- Assumes nothing.
-use Prim.Native.Nat.{ℕ, zero, suc, _+_, _-_, _*_, _≤_, _<_}
+use Prim.Native.Nat.{ℕ, suc, _+_, _-_, _*_, _≤_, _<_}
 use mathlib.Core.Path.{_≡_, refl, sym, ap, _∙_}
 use mathlib.Core.List.{List, [], _∷_, _++_, append-assoc, append-nil}
 use native.Mathlib.Nat.{mul-zero, mul-suc, mul-le-mul-left}
 use native.Mathlib.Numerals.{add-one}
 use native.Mathlib.Omega.{arith}
 use lib.ListN.{length, getD, set, take, drop, length-append, length-drop, take-append-drop, drop-of-length-le}
-use lib.Seq.{take-at, drop-at, drop-drop, take-suc, take-suc-set, take-all, length-take-le, getD-take, ext-getD, sets, sets-eq}
+use lib.Seq.{take-at, drop-at, drop-drop, take-suc, take-suc-set, take-all, length-take-le, getD-take, ext-getD, sets-eq}
 use borrow.Rule.Slice.PartMut.{putMid, midOf, same-len-mid}
 use Rattle.basics.specs.Parts.{joined, table, partOf}
 use Rattle.basics.proofs.Few.{four}

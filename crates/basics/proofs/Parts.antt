@@ -1,10 +1,10 @@
 -- Laws of a list made of parts: its length, each part, each element, and two lists whose parts agree.
 -- Assumes nothing.
-use Prim.Native.Nat.{ℕ, zero, suc, _+_, _*_, _/_, _%_, _≤_, _<_}
+use Prim.Native.Nat.{ℕ, zero, suc, _+_, _*_, _≤_, _<_}
 use mathlib.Core.Path.{_≡_, refl, sym, ap, _∙_}
 use mathlib.Core.List.{List, [], _∷_, _++_}
 use mathlib.Core.Logic.{⊎-elim}
-use native.Mathlib.Nat.{not-suc-le-zero, le-of-suc-le-suc, eq-or-lt-of-le, mul-zero, mul-suc, mul-le-mul-left, one-mul, div-add-mod, div-lt-iff-lt-mul, mod-lt}
+use native.Mathlib.Nat.{not-suc-le-zero, le-of-suc-le-suc, eq-or-lt-of-le, mul-zero, mul-suc, mul-le-mul-left, one-mul}
 use native.Mathlib.Numerals.{add-one}
 use native.Mathlib.Omega.{arith}
 use lib.ListN.{length, getD, take, drop, length-append, length-drop}
@@ -77,13 +77,6 @@ module _ {A : Type 0} where
   joined-at k part n e i j d h l =
       sym (getD-take k (drop (k * i) (joined part n)) j d l ∙ getD-drop (k * i) (joined part n) j d)
       ∙ ap (λ (r : List A). getD r j d) (joined-part k part n e i h)
-
-  -- element p, by quotient and remainder
-  pub joined-div :
-      (k : ℕ) (part : ℕ → List A) (n : ℕ) → Each k part n → (p : ℕ) (d : A) → 0 < k → p < n * k → getD (joined part n) p d ≡ getD (part (p / k)) (p % k) d
-  joined-div k part n e p d pos h =
-      ap (λ (m : ℕ). getD (joined part n) m d) (sym (div-add-mod p k))
-      ∙ joined-at k part n e (p / k) (p % k) d (div-lt-iff-lt-mul pos .1 h) (mod-lt p pos)
 
   pub length-table : (f : ℕ → A) (n : ℕ) → length (table f n) ≡ n
   length-table f n = length-joined 1 (λ i. f i ∷ []) n (λ i h. refl) ∙ one-mul n

@@ -1,13 +1,12 @@
 -- Laws of whole slice bytes: doubled halves, and the effective byte.
 -- Assumes nothing.
-use Prim.Native.Nat.{ℕ, _*_, _/_, _%_, _+_, _<_}
-use mathlib.Core.Path.{_≡_, refl, sym, _∙_, ap}
+use Prim.Native.Nat.{ℕ, _/_, _%_, _<_}
+use mathlib.Core.Path.{_≡_, refl, sym, _∙_}
 use mathlib.Core.Bool.{Bool, true, false, _&&_}
 use mathlib.Core.List.{List, [], _∷_}
 use lib.Dec.{eqb}
 use lib.ListN.{getD}
-use Rattle.basics.specs.Choice.{pick}
-use Rattle.basics.specs.Bits.{bits, isSet, fromBits}
+use Rattle.basics.specs.Bits.{fromBits}
 use Rattle.basics.proofs.Bits.{number-same}
 use Rattle.basics.proofs.Computed.{agree}
 use Rattle.cell.specs.declared.kind.Cell.{Cell}

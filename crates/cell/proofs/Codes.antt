@@ -4,9 +4,8 @@ use Prim.Native.Nat.{ℕ, _%_, _≤_, _<_}
 use mathlib.Core.Path.{_≡_, _∙_}
 use mathlib.Core.Bool.{Bool, _&&_}
 use native.Mathlib.Omega.{arith}
-use lib.Dec.{ltb, leb}
+use lib.Dec.{leb}
 use borrow.Author.Tests.{lt-ltb, le-ltb, le-leb, lt-leb}
-use Rattle.basics.specs.Choice.{pick}
 use Rattle.basics.specs.Bits.{bits, isSet}
 use Rattle.basics.proofs.Computed.{agree-test}
 use Rattle.colour.specs.Colours.{colourOf}
@@ -15,7 +14,6 @@ use Rattle.cell.specs.Cells.{setOf, alphanumericOf, bichromeOf, quadrich
 use Rattle.cell.specs.declared.kind.Set.{Set}
 use Rattle.cell.specs.declared.kind.Set.the-variants.{G0, G10, G11, G20, G21, UserG0, UserG1}
 use Rattle.cell.specs.declared.kind.BichromeCell.{BichromeCell}
-use Rattle.cell.specs.declared.kind.Cell.{Cell}
 use Rattle.cell.specs.declared.kind.Cell.the-variants.{Bichrome, Quadrichrome}
 
 module _ (n : ℕ) where

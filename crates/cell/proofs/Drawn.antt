@@ -1,23 +1,22 @@
 -- The line that the code makes of a cell's pairs has the page's pixels.
 -- Assumes nothing.
 use Prim.Native.Nat.{ℕ, _*_, _/_, _%_, _+_, _<_}
-use mathlib.Core.Path.{_≡_, refl, sym, _∙_, ap}
-use mathlib.Core.Bool.{Bool, true, false}
+use mathlib.Core.Path.{_≡_, sym, _∙_, ap}
+use mathlib.Core.Bool.{Bool}
 use mathlib.Core.List.{List, [], _∷_}
 use native.Mathlib.Omega.{arith}
 use lib.ListN.{length, getD}
 use Rattle.basics.specs.Bits.{bits, isSet, fromBits}
-use Rattle.basics.specs.Parts.{joined, table}
+use Rattle.basics.specs.Parts.{joined}
 use Rattle.basics.proofs.Bits.{number-bit, number-small, field-low, field-high, byte-number}
 use Rattle.basics.proofs.Parts.{table-at, table-same, length-table}
 use Rattle.shown.specs.declared.Shown.{Shown}
 use Rattle.colour.specs.Colours.{packedOf}
-use Rattle.colour.specs.Ranks.{colourOfRank}
 use Rattle.cell.specs.declared.kind.BichromeCell.{BichromeCell}
 use Rattle.cell.specs.declared.kind.QuadrichromeCell.{QuadrichromeCell}
 use Rattle.cell.specs.declared.kind.Cell.{Cell}
 use Rattle.cell.specs.declared.kind.Cell.the-variants.{Bichrome, Quadrichrome}
-use Rattle.cell.specs.Pixels.{takenBit, underlined, dyed, bichromePixel, quadrichromePixel, cellPixel, cellLine}
+use Rattle.cell.specs.Pixels.{takenBit, underlined, dyed, bichromePixel, quadrichromePixel, cellLine}
 use Rattle.cell.specs.HowPairs.{bichromePairs, rankPair, quadrichromePairs, cellPairs, effectiveOf, fourBy}
 
 -- four bytes, as the code chooses them

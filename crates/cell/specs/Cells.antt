@@ -1,6 +1,6 @@
 -- A cell is either bichrome or quadrichrome, and carries its own attributes.
 -- Assumes nothing.
-use Prim.Native.Nat.{ℕ, _/_, _%_}
+use Prim.Native.Nat.{ℕ, _%_}
 use mathlib.Core.Bool.{Bool, true, false, _&&_}
 use lib.Dec.{ltb}
 use Rattle.basics.specs.Choice.{pick}

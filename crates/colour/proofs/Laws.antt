@@ -1,19 +1,18 @@
 -- Laws of colours, ranks and palettes.
 -- Assumes nothing.
-use Prim.Native.Nat.{ℕ, _+_, _*_, _/_, _%_, _^_, _<_, _≤_}
-use mathlib.Core.Path.{_≡_, refl, sym, _∙_, ap}
-use mathlib.Core.Bool.{Bool, true, false, _&&_}
-use mathlib.Core.List.{List, [], _∷_, map}
+use Prim.Native.Nat.{ℕ, _+_, _*_, _%_, _^_, _<_, _≤_}
+use mathlib.Core.Path.{_≡_, sym, _∙_, ap}
+use mathlib.Core.Bool.{Bool, true, false}
 use native.Mathlib.Omega.{arith}
 use lib.Dec.{eqb}
 use lib.Count.{ones, onesIn}
 use Rattle.basics.specs.Bits.{isSet}
-use Rattle.basics.specs.Choice.{pick, oneIf}
+use Rattle.basics.specs.Choice.{pick}
 use Rattle.basics.specs.Below.{countBelow, lastBelow}
 use Rattle.basics.proofs.Computed.{agree, agree2}
-use Rattle.basics.proofs.Below.{last-hit, last-miss, last-small}
+use Rattle.basics.proofs.Below.{last-hit, last-miss}
 use Rattle.colour.specs.declared.Colour.{Colour}
-use Rattle.colour.specs.Colours.{colourOf, nibbleOf, black}
+use Rattle.colour.specs.Colours.{colourOf, nibbleOf}
 use Rattle.colour.specs.Ranks.{rankOf, hasRank, colourOfRank}
 
 -- the colour of a number is the one that its low three bits name

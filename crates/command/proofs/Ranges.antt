@@ -4,12 +4,11 @@ use Prim.Native.Nat.{ℕ, zero, suc, _+_, _≤_, _<_}
 use native.Mathlib.Omega.{arith}
 use mathlib.Core.Bool.{Bool, true, false, _&&_}
 use mathlib.Core.Path.{_≡_, refl, subst}
-use borrow.Author.Tests.{le-leb, lt-leb, eqb-true, eqb-false}
-use Rattle.basics.specs.Choice.{pick}
+use borrow.Author.Tests.{eqb-true, eqb-false}
 use Rattle.command.specs.Commands.{commandOf}
 use Rattle.command.specs.declared.Command.{Command}
 use Rattle.command.specs.declared.Command.the-variants.{Nop, Ind, Krf, Oct, NotListed}
-use lib.Dec.{leb, eqb, T}
+use lib.Dec.{eqb, T}
 
 -- A rule over the numbers from low on, n of them, which antt computes.
 abbrev pub All : (ℕ → Type 0) → ℕ → ℕ → Type 0

@@ -21,7 +21,6 @@ use Rattle.shown.specs.Lengths.{columnBytes, rowBytes}
 use Rattle.shown.proofs.Refusals.{can-draw-same}
 use Rattle.page.specs.Marks.{isMarked, markedRows, allMarked}
 use Rattle.picture.specs.Redraws.{redrawn, fresh}
-use Rattle.picture.specs.Rows.{rowOf}
 use Rattle.picture.proofs.Redrawing.{redrawn-fresh, fresh-part}
 use Rattle.picture.proofs.Registers.{row-ignores}
 use Rattle.processor.specs.declared.state.Processor.{Processor}

@@ -2,7 +2,7 @@
 -- stored are the three that are read.
 -- Assumes nothing.
 use Prim.Native.Nat.{ℕ, _<_}
-use mathlib.Core.Path.{_≡_, refl, ap, _∙_}
+use mathlib.Core.Path.{_≡_, ap, _∙_}
 use mathlib.Core.Bool.{true}
 use mathlib.Core.Logic.{_≢_}
 use native.Mathlib.Omega.{arith}
@@ -20,11 +20,6 @@ use Rattle.address.specs.Boards.{boardDistricts, memoryBytes}
 pub stored-long : (t : Triple) (v : ℕ) (k : Chip) → length (stored t v k .memory) ≡ length (k .memory)
 unfolding stored
 stored-long t v k = length-set (k .memory) (placeAt t) v
-
--- and every register
-pub stored-registers : (t : Triple) (v : ℕ) (k : Chip) → stored t v k .processor .registers ≡ k .processor .registers
-unfolding stored
-stored-registers t v k = refl
 
 -- the byte stored is there
 pub stored-here : (t : Triple) (v : ℕ) (k : Chip) → legal t ≡ true → length (k .memory) ≡ memoryBytes → loaded t (stored t v k .memory) ≡ v

@@ -19,7 +19,6 @@ use Rattle.cell.specs.Cells.{alphanumericOf, bichromeOf, quadrichromeOf, isQuad
 use Rattle.cell.specs.Slices.{sliceOfTwenty, bichromeSlice}
 use Rattle.cell.specs.HowPairs.{underlinedOn}
 use Rattle.cell.proofs.Heights.{twenty-alphanumeric, slice-single, slice-lower, slice-upper}
-use Rattle.page.specs.Inputs.{decoded}
 use Rattle.columns.specs.HowColumns.{byteIn}
 use Rattle.lines.specs.HowLines.{linedByte, linedOn, bytesOn}
 

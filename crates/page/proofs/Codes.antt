@@ -1,8 +1,8 @@
 -- Laws of a row's code bytes: their places are in memory, and the attributes of a bichrome cell.
 -- Assumes nothing.
-use Prim.Native.Nat.{ℕ, _*_, _/_, _%_, _<_, _≤_}
-use mathlib.Core.Path.{_≡_, _∙_, ap}
-use mathlib.Core.Bool.{Bool, true, false, not, _&&_}
+use Prim.Native.Nat.{ℕ, _<_, _≤_}
+use mathlib.Core.Path.{_≡_, _∙_}
+use mathlib.Core.Bool.{false, not, _&&_}
 use mathlib.Core.List.{List}
 use native.Mathlib.Omega.{arith}
 use borrow.Author.Tests.{le-leb, lt-leb}

@@ -1,7 +1,7 @@
 -- Laws of sources and slices: a source is one of the five ROM sets or of the board's blocks, and a slice's place is in memory.
 -- Assumes nothing.
-use Prim.Native.Nat.{ℕ, _+_, _*_, _/_, _%_, _<_, _≤_}
-use mathlib.Core.Path.{_≡_, refl, sym, ap, _∙_}
+use Prim.Native.Nat.{ℕ, _+_, _*_, _%_, _<_}
+use mathlib.Core.Path.{_≡_, sym, _∙_}
 use mathlib.Core.Bool.{Bool, true, false}
 use mathlib.Core.List.{List}
 use native.Mathlib.Omega.{arith}
@@ -21,7 +21,7 @@ use Rattle.cell.specs.declared.kind.Set.{Set}
 use Rattle.cell.specs.declared.kind.Set.the-variants.{G0, G10, G11, G20, G21, UserG0, UserG1}
 use Rattle.cell.specs.declared.kind.Cell.{Cell}
 use Rattle.cell.specs.declared.kind.Cell.the-variants.{Bichrome, Quadrichrome}
-use Rattle.page.specs.Sources.{setSource, cellSource, characterOf, keptSlice, romSlice, sliceFrom, slicesOf}
+use Rattle.page.specs.Sources.{setSource, cellSource, characterOf, keptSlice, romSlice, slicesOf}
 use Rattle.page.specs.declared.source.Source.{Source}
 use Rattle.page.specs.declared.source.Source.the-variants.{Rom, Block}
 

@@ -1,15 +1,14 @@
 -- A turn of the loop that feeds.
 -- Assumes nothing.
 use Prim.Native.Nat.{ℕ, _+_, _*_}
-use mathlib.Core.Path.{_≡_, refl, sym, ap, _∙_}
+use mathlib.Core.Path.{_≡_, ap, _∙_}
 use mathlib.Core.List.{List}
 use native.Mathlib.Numerals.{add-one}
 use lib.ListN.{getD}
-use Rattle.processor.specs.declared.state.Processor.{Processor}
 use Rattle.processor.specs.declared.execute.Answered.{Answered}
 use Rattle.command.specs.Answers.{numberOf}
 use Rattle.processor.specs.States.{chip}
-use Rattle.processor.specs.Access.{Outcome, outcomeOf, written}
+use Rattle.processor.specs.Access.{outcomeOf, written}
 use Rattle.panel.specs.declared.Fed.{Fed}
 use Rattle.panel.specs.Feeds.{Feeding, feeding, after, fedPairs}
 

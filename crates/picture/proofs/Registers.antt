@@ -61,24 +61,3 @@ pub row-steady :
     → anyFlashes (rowInput a m r) ≡ false → rowOf m rom a r ≡ rowOf m rom b r
 row-steady a b pat dor ror m rom r none =
     painted-steady a b pat rom (rowInput a m r) none ∙ ap (painted rom b) (input-ignores a b dor ror m r)
-
--- the same of a record of which one field is another
-module _ (shown : Shown) where
-  abbrev pub withTgs : ℕ → Shown
-  withTgs v = record { tgs = v; mat = shown .mat; pat = shown .pat; dor = shown .dor; ror = shown .ror; phase = shown .phase }
-
-  abbrev pub withMat : ℕ → Shown
-  withMat v = record { tgs = shown .tgs; mat = v; pat = shown .pat; dor = shown .dor; ror = shown .ror; phase = shown .phase }
-
-  abbrev pub withPhase : ℕ → Shown
-  withPhase v = record { tgs = shown .tgs; mat = shown .mat; pat = shown .pat; dor = shown .dor; ror = shown .ror; phase = v }
-
-  module _ (m rom : List ℕ) (v r : ℕ) where
-    pub row-ignores-tgs : rowOf m rom (withTgs v) r ≡ rowOf m rom shown r
-    row-ignores-tgs = row-ignores (withTgs v) shown refl refl refl refl m rom r
-
-    pub row-ignores-mat : rowOf m rom (withMat v) r ≡ rowOf m rom shown r
-    row-ignores-mat = row-ignores (withMat v) shown refl refl refl refl m rom r
-
-    pub row-ignores-phase : anyFlashes (rowInput shown m r) ≡ false → rowOf m rom (withPhase v) r ≡ rowOf m rom shown r
-    row-ignores-phase none = row-steady (withPhase v) shown refl refl refl m rom r (ap anyFlashes (input-ignores (withPhase v) shown refl refl m r) ∙ none)

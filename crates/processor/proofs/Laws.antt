@@ -1,17 +1,14 @@
 -- Laws of pointers and registers.
 -- Assumes nothing.
 use Prim.Native.Nat.{ℕ, _+_, _-_, _/_, _%_, _<_}
-use mathlib.Core.Path.{_≡_, refl, sym, ap, _∙_}
+use mathlib.Core.Path.{_≡_, refl, ap, _∙_}
 use mathlib.Core.Bool.{Bool, true, false}
 use mathlib.Core.List.{List}
 use native.Mathlib.Omega.{arith}
-use lib.Dec.{ltb, leb, eqb}
-use lib.ListN.{getD, set}
+use lib.Dec.{eqb}
 use lib.Seq.{getD-set-other}
-use borrow.Author.Tests.{lt-ltb, leb-true, eq-eqb, ne-eqb}
+use borrow.Author.Tests.{eq-eqb, ne-eqb}
 use Rattle.basics.specs.Bits.{bits}
-use Rattle.basics.specs.Choice.{pick}
-use Rattle.basics.proofs.Choice.{and-both, and-right}
 use Rattle.address.specs.Triples.{legal}
 use Rattle.address.specs.declared.triple.Triple.{Triple}
 use Rattle.address.proofs.Places.{legal-x}
@@ -122,8 +119,3 @@ module _ (address : ℕ) where
 
   pub high-bits : address < 256 → eqb (bits 4 4 address) 2 ≡ eqb (address / 16) 2
   high-bits l = let e : bits 4 4 address ≡ address / 16 = omega arith in rw e
-
--- a legal pointer, from what the code learnt
-pub pointer-legal :
-    (auxiliary : Bool) (p : Processor) (t : Triple) (b : Bool) → t ≡ pointerOf auxiliary p → b ≡ legal t → legal (pointerOf auxiliary p) ≡ b
-pointer-legal auxiliary p t b e f = ap legal (sym e) ∙ sym f

@@ -1,6 +1,5 @@
 use Prim.Native.Nat.{ℕ, _+_, _-_, _%_}
-use mathlib.Core.Path.{_≡_, sym, ap, _∙_}
-use native.Mathlib.Omega.{arith}
+use mathlib.Core.Path.{sym, ap, _∙_}
 use Rattle.reading.proofs.Places.{row-at-service, row-at-other}
 use borrow.Author.Needs.{needs}
 use Rattle.reading.proofs.own.row_at.Statement.{statement}
