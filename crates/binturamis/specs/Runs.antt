@@ -21,18 +21,18 @@ abbrev pub callerOf : World → Caller
 callerOf w = record { bytes = packed (w .processor); memory = w .memory; rom = w .rom; picture = w .picture }
 
 -- what an access or a phase change leaves
-abbrev pub accessed : Called → Caller → Caller
-accessed c b = record { bytes = c .bytes; memory = c .memory; rom = b .rom; picture = b .picture }
+abbrev pub afterCall : Called → Caller → Caller
+afterCall c b = record { bytes = c .bytes; memory = c .memory; rom = b .rom; picture = b .picture }
 
 -- what a draw leaves
-abbrev pub redone : DrawCalled → Caller → Caller
-redone c b = record { bytes = c .bytes; memory = b .memory; rom = b .rom; picture = c .picture }
+abbrev pub afterDraw : DrawCalled → Caller → Caller
+afterDraw c b = record { bytes = c .bytes; memory = b .memory; rom = b .rom; picture = c .picture }
 
 abbrev pub call : Operation → Caller → Caller
-call (write address v) b = accessed (callOf (written address v (chip (unpacked (b .bytes)) (b .memory)))) b
-call (read address) b = accessed (callOf (readOut address (chip (unpacked (b .bytes)) (b .memory)))) b
-call (turn n) b = accessed (callOf (turned n (chip (unpacked (b .bytes)) (b .memory)))) b
-call draw b = redone (drawCallOf (drawn (unpacked (b .bytes)) (b .memory) (b .rom) (b .picture))) b
+call (write address v) b = afterCall (callOf (written address v (chip (unpacked (b .bytes)) (b .memory)))) b
+call (read address) b = afterCall (callOf (readOut address (chip (unpacked (b .bytes)) (b .memory)))) b
+call (turn n) b = afterCall (callOf (turned n (chip (unpacked (b .bytes)) (b .memory)))) b
+call draw b = afterDraw (drawCallOf (drawn (unpacked (b .bytes)) (b .memory) (b .rom) (b .picture))) b
 
 abbrev pub calls : List Operation → Caller → Caller
 calls [] b = b
