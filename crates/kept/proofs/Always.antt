@@ -1,38 +1,45 @@
--- Demand 3: after each accepted draw of any run from power-up, the picture is the one drawn afresh, and the number of rows is the number
--- marked.
+-- Demand 3: after each accepted draw of any run from power-up, the picture is the one drawn afresh.
 -- Assumes nothing.
 use Prim.Native.Nat.{ℕ, _<_}
 use mathlib.Core.Path.{_≡_, refl, sym, ap, subst, _∙_}
 use mathlib.Core.Bool.{Bool, true, false, not, _&&_, false≢true}
 use mathlib.Core.List.{List}
-use mathlib.Core.Logic.{_⊎_, inl, inr, ⊎-elim}
+use mathlib.Core.Logic.{_≢_, _⊎_, inl, inr, ⊎-elim}
 use native.Mathlib.Omega.{arith}
 use lib.Dec.{eqb}
-use lib.ListN.{getD, set}
+use lib.ListN.{length, getD, set}
 use lib.Seq.{getD-set-other, set-getD}
-use borrow.Author.Tests.{eqb-true}
+use borrow.Author.Tests.{eqb-true, ne-eqb}
 use Rattle.basics.specs.Parts.{partOf}
-use Rattle.basics.proofs.Choice.{pick-known}
+use Rattle.basics.specs.Choice.{pick}
+use Rattle.basics.proofs.Choice.{pick-known, pick-either}
 use Rattle.basics.proofs.Parts.{table-at}
 use Rattle.address.specs.Places.{placeAt}
 use Rattle.address.specs.declared.triple.Triple.{Triple}
 use Rattle.shown.specs.declared.Shown.{Shown}
-use Rattle.shown.specs.Lengths.{columnBytes, rowBytes}
+use Rattle.address.specs.Boards.{memoryBytes}
+use Rattle.shown.specs.Lengths.{romBytes, columnBytes, rowBytes, pictureBytes}
 use Rattle.shown.proofs.Refusals.{can-draw-same}
-use Rattle.page.specs.Marks.{isMarked, markedRows, allMarked}
+use Rattle.page.specs.Marks.{isMarked, allMarked}
 use Rattle.picture.specs.Redraws.{redrawn, fresh}
 use Rattle.picture.proofs.Redrawing.{redrawn-fresh, fresh-part}
 use Rattle.picture.proofs.Registers.{row-ignores}
 use Rattle.processor.specs.declared.state.Processor.{Processor}
-use Rattle.command.specs.Answers.{drawNumberOf, rowsOf}
+use Rattle.command.specs.declared.answer.Drawing.{Drawing}
+use Rattle.command.specs.Answers.{drawNumberOf}
 use Rattle.processor.specs.States.{Chip, chip, shownBy, shownOf, powerUp, registerOf, indirectWritten}
 use Rattle.processor.specs.Bytes.{stored}
 use Rattle.processor.specs.Access.{phased}
-use Rattle.processor.specs.Draws.{DrawOutcome, drawnPage, drawn}
+use Rattle.processor.specs.Draws.{DrawOutcome, drawOutcome, drawnPage, drawn}
 use Rattle.kept.specs.Fresh.{FreshOn, Fresh, FreshIn}
-use Rattle.kept.specs.Runs.{Operation, World, first, run, drawnIn}
+use Rattle.kept.specs.Demands.{DrawFresh}
+use Rattle.kept.specs.Orders.{firstOf, order, isLate}
+use Rattle.kept.specs.Premises.{EveryRowMarked, Fair, FairRun}
+use Rattle.kept.specs.Runs.{Lent, own, other, Operation, write, read, turn, draw, World, first, step, run, done, lentOf, chipLent}
 use Rattle.kept.specs.Rules.{isShown}
-use Rattle.kept.proofs.Walk.{draw-known, KeptBy, noneBarred, KeptByAll, chipOf, run-keeps}
+use Rattle.kept.proofs.Numbers.{number-first}
+use Rattle.kept.proofs.Refusals.{refusal-stays}
+use Rattle.kept.proofs.Walk.{pick-same, draw-known, KeptBy, noneBarred, write-keeps, read-keeps, turn-keeps, run-known}
 use Rattle.kept.proofs.Steps.{store-before, store-keeps, phase-before, phase-keeps}
 
 either-holds : (a b : Bool) → (not a && not b) ≡ false → (a ≡ true) ⊎ (b ≡ true)
@@ -97,7 +104,7 @@ module _ (rom picture : List ℕ) where
       record {
         register = λ k n v f. f;
         lx = λ k m a f. f;
-        store = λ c s n t v k f. stored-fresh t v k f;
+        store = λ c s n t g v k f. stored-fresh t v k f;
         ind = λ r n k f. indirect-fresh r k f;
       }
 
@@ -112,7 +119,7 @@ module _ (rom picture : List ℕ) where
       let b = f r l (phase-before shown (k .memory) (p .marks) r l u) in
       (can-draw-same turned shown refl refl refl ∙ b .0, b .1 ∙ phase-keeps shown (k .memory) (p .marks) r l turned refl refl refl (b .0) u rom))
 
--- the draw: what an accepted one leaves is the fresh picture
+-- the draw, of a picture whose unmarked rows are fresh: an accepted one leaves the fresh picture
 module _ (p : Processor) (m rom picture : List ℕ) (f : Fresh p m rom picture) where
   abbrev seen : Shown
   seen = shownOf p
@@ -120,52 +127,121 @@ module _ (p : Processor) (m rom picture : List ℕ) (f : Fresh p m rom picture) 
   page-fresh : redrawn (p .marks) picture m rom seen ≡ fresh m rom seen
   page-fresh = redrawn-fresh (p .marks) picture m rom seen (λ r l e. f r l e .1)
 
-  abbrev LeftFresh : DrawOutcome → Type 0
-  LeftFresh o = Fresh (o .processor) m rom (o .picture)
+  -- keep n q is what is kept of a picture q that a draw with number n left: an accepted draw's
+  module _ (keep : ℕ → List ℕ → List ℕ) (keeps : (q : List ℕ) → keep 0 q ≡ q) where
+    abbrev LeftFresh : DrawOutcome → Type 0
+    LeftFresh o = Fresh (o .processor) m rom (keep (drawNumberOf (o .answer)) (o .picture))
 
-  abbrev DrawnFresh : DrawOutcome → Type 0
-  DrawnFresh o = drawNumberOf (o .answer) ≡ 0 → (o .picture ≡ fresh m rom seen) × (rowsOf (o .answer) ≡ markedRows (p .marks) 25)
+    abbrev DrawnFresh : DrawOutcome → Type 0
+    DrawnFresh o = drawNumberOf (o .answer) ≡ 0 → keep (drawNumberOf (o .answer)) (o .picture) ≡ fresh m rom (shownOf (o .processor))
 
-  page-left : isShown p ≡ true → LeftFresh (drawnPage p m rom picture)
-  unfolding drawnPage
-  page-left can r l e = (can, ap (λ (q : List ℕ). partOf (rowBytes columnBytes) q r) page-fresh ∙ fresh-part m rom seen r l)
+    page-kept : keep 0 (redrawn (p .marks) picture m rom seen) ≡ fresh m rom seen
+    page-kept = keeps (redrawn (p .marks) picture m rom seen) ∙ page-fresh
 
-  page-accepted : DrawnFresh (drawnPage p m rom picture)
-  unfolding drawnPage
-  page-accepted e = (page-fresh, refl)
+    page-left : isShown p ≡ true → LeftFresh (drawnPage p m rom picture)
+    unfolding drawnPage
+    page-left can r l e = (can, ap (λ (q : List ℕ). partOf (rowBytes columnBytes) q r) page-kept ∙ fresh-part m rom seen r l)
 
-  drawn-left : LeftFresh (drawn p m rom picture)
-  drawn-left = draw-known LeftFresh p m rom picture (λ a e n. f) (λ e can. page-left can)
+    page-drawn : DrawnFresh (drawnPage p m rom picture)
+    unfolding drawnPage
+    page-drawn z = page-kept
 
-  drawn-accepted : DrawnFresh (drawn p m rom picture)
-  drawn-accepted = draw-known DrawnFresh p m rom picture (λ a e n z. absurd (n z)) (λ e can. page-accepted)
+    pub drawn-left :
+        ((a : Drawing) → drawNumberOf a ≢ 0 → Fresh p m rom (keep (drawNumberOf a) picture)) → LeftFresh (drawn p m rom picture)
+    drawn-left refused = draw-known LeftFresh p m rom picture (λ a s n. refused a n) (λ s can. page-left can)
+
+    pub drawn-accepted : DrawnFresh (drawn p m rom picture)
+    drawn-accepted = draw-known DrawnFresh p m rom picture (λ a s n z. absurd (n z)) (λ s can. page-drawn)
+
+-- every row marked: any picture will do
+marked-any : (w : World) → EveryRowMarked w → (picture : List ℕ) → Fresh (w .processor) (w .memory) (w .rom) picture
+marked-any w all picture r l e = absurd (false≢true (sym e ∙ all r l))
+
+-- what is lent with a wrong length is refused, and then nothing has changed
+wrong-access : (o : Operation) (w : World) → firstOf (order o w) ≡ 1 → step o w ≡ w
+wrong-access o w e = let one = number-first o w ∙ e in refusal-stays o w (λ z. absurd (omega (arith, one, z))) (rw one)
+
+refused-draw : (x y z : Lent) (w : World) → firstOf (order (draw x y z) w) ≢ 0 → step (draw x y z) w ≡ w
+refused-draw x y z w n = refusal-stays (draw x y z) w (λ e. n (sym (number-first (draw x y z) w) ∙ e)) (pick-same (isLate (done (draw x y z) w .number)) (w .processor))
+
+module _ (x y z : Lent) (w : World) where
+  abbrev m : List ℕ
+  m = lentOf x (w .memory)
+
+  abbrev rom : List ℕ
+  rom = lentOf y (w .rom)
+
+  abbrev picture : List ℕ
+  picture = lentOf z (w .picture)
+
+  abbrev Refused : Type 0
+  Refused = firstOf (order (draw x y z) w) ≢ 0
+
+  wrong-memory : length m ≢ memoryBytes → Refused
+  wrong-memory n = rw (ne-eqb (length m) memoryBytes n) (λ e. absurd (omega arith))
+
+  wrong-rom : length rom ≢ romBytes → Refused
+  wrong-rom n =
+      pick-either (λ i. i ≢ 0) (not (eqb (length m) memoryBytes)) 1 _ (λ e. absurd (omega arith))
+      (rw (ne-eqb (length rom) romBytes n) (λ e. absurd (omega arith)))
+
+  wrong-picture : length picture ≢ pictureBytes columnBytes → Refused
+  wrong-picture n =
+      pick-either (λ i. i ≢ 0) (not (eqb (length m) memoryBytes)) 1 _ (λ e. absurd (omega arith))
+      (pick-either (λ i. i ≢ 0) (not (eqb (length rom) romBytes)) 5 _ (λ e. absurd (omega arith))
+      (rw (ne-eqb (length picture) (pictureBytes columnBytes) n) (λ e. absurd (omega arith))))
 
 -- each operation, and so each run
-fresh-in : KeptByAll FreshIn
-fresh-in =
-    record {
-      access = λ w. fresh-kept (w .rom) (w .picture);
-      turning = λ w n f. phased-fresh (w .rom) (w .picture) n (chipOf w) f;
-      drawing = λ w f. drawn-left (w .processor) (w .memory) (w .rom) (w .picture) f;
-    }
+same-fresh : (w u : World) → u ≡ w → FreshIn w → FreshIn u
+same-fresh w u e f = subst FreshIn (sym e) f
+
+first-is-1 : (m : List ℕ) (rest : ℕ) → length m ≢ memoryBytes → pick (not (eqb (length m) memoryBytes)) 1 rest ≡ 1
+first-is-1 m rest n = rw (ne-eqb (length m) memoryBytes n)
+
+draw-keeps : (x y z : Lent) (w : World) → Fair (draw x y z) w → FreshIn w → FreshIn (step (draw x y z) w)
+draw-keeps (other b) y z w g f = same-fresh w _ (refused-draw (other b) y z w (wrong-memory (other b) y z w (g .0))) f
+draw-keeps own (other b) z w g f = same-fresh w _ (refused-draw own (other b) z w (wrong-rom own (other b) z w (g .1))) f
+draw-keeps own own own w g f = drawn-left (w .processor) (w .memory) (w .rom) (w .picture) f (λ n q. q) (λ q. refl) (λ a n. f)
+draw-keeps own own (other b) w g f =
+    ⊎-elim (λ n. same-fresh w _ (refused-draw own own (other b) w (wrong-picture own own (other b) w n)) f)
+    (λ all.
+    drawn-left (w .processor) (w .memory) (w .rom) b (marked-any w all b) (λ n q. pick (eqb n 0) q (w .picture)) (λ q. refl)
+    (λ a n. rw (ne-eqb (drawNumberOf a) 0 n) f))
+    (g .2)
+
+step-keeps : (o : Operation) (w : World) → Fair o w → FreshIn w → FreshIn (step o w)
+step-keeps (write own address v) w g f = write-keeps noneBarred _ (fresh-kept (w .rom) (w .picture)) address v (chipLent own w) (λ x. refl) f
+step-keeps (write (other b) address v) w g f = same-fresh w _ (wrong-access (write (other b) address v) w (first-is-1 b _ g)) f
+step-keeps (read own address) w g f = read-keeps noneBarred _ (fresh-kept (w .rom) (w .picture)) address (chipLent own w) (λ x. refl) f
+step-keeps (read (other b) address) w g f = same-fresh w _ (wrong-access (read (other b) address) w (first-is-1 b _ g)) f
+step-keeps (turn own n) w g f =
+    let k = chipLent own w in turn-keeps (FreshChip (w .rom) (w .picture)) n k f (phased-fresh (w .rom) (w .picture) n k f)
+step-keeps (turn (other b) n) w g f = same-fresh w _ (wrong-access (turn (other b) n) w (first-is-1 b _ g)) f
+step-keeps (draw x y z) w g f = draw-keeps x y z w g f
 
 first-fresh : (m rom picture : List ℕ) → FreshIn (first m rom picture)
 unfolding powerUp
 first-fresh m rom picture = marked-fresh rom picture (shownOf powerUp) m
 
--- demand 3, over every run of operations from power-up with any memory, ROM and picture
-module _ (os : List Operation) (m rom picture : List ℕ) where
-  abbrev pub now-world : World
-  now-world = run os (first m rom picture)
+-- each unmarked row is fresh, and there is one only while a draw would get neither 7 nor 8
+pub always-fresh : (m rom picture : List ℕ) (os : List Operation) → FairRun os (first m rom picture) → FreshIn (run os (first m rom picture))
+always-fresh m rom picture os g =
+    run-known (λ os u. FairRun os u × FreshIn u) (λ o os u h. (h .0 .1, step-keeps o u (h .0 .0) (h .1))) os (first m rom picture)
+    (g, first-fresh m rom picture) .1
 
-  -- each unmarked row is fresh, and there is one only while a draw would get neither 7 nor 8
-  pub always-fresh : FreshIn now-world
-  always-fresh = run-keeps FreshIn fresh-in os (first m rom picture) (first-fresh m rom picture)
+-- a draw that is accepted leaves the picture drawn afresh
+draw-accepted :
+    (x y z : Lent) (w : World) → Fair (draw x y z) w → FreshIn w → done (draw x y z) w .number ≡ 0 →
+    let after = step (draw x y z) w in after .picture ≡ fresh (after .memory) (after .rom) (shownOf (after .processor))
+draw-accepted (other b) y z w g f e = absurd (wrong-memory (other b) y z w (g .0) (sym (number-first (draw (other b) y z) w) ∙ e))
+draw-accepted own (other b) z w g f e = absurd (wrong-rom own (other b) z w (g .1) (sym (number-first (draw own (other b) z) w) ∙ e))
+draw-accepted own own own w g f e = drawn-accepted (w .processor) (w .memory) (w .rom) (w .picture) f (λ n q. q) (λ q. refl) e
+draw-accepted own own (other b) w g f e =
+    ⊎-elim (λ n. absurd (wrong-picture own own (other b) w n (sym (number-first (draw own own (other b)) w) ∙ e)))
+    (λ all.
+    drawn-accepted (w .processor) (w .memory) (w .rom) b (marked-any w all b) (λ n q. pick (eqb n 0) q (w .picture)) (λ q. refl) e)
+    (g .2)
 
-  -- a draw that is accepted leaves the picture drawn afresh from the present memory, registers, ROM and phase, and its number of rows is
-  -- the number marked before it
-  pub draw-fresh :
-      drawNumberOf (drawnIn now-world .answer) ≡ 0 →
-      (drawnIn now-world .picture ≡ fresh (now-world .memory) (now-world .rom) (shownOf (now-world .processor)))
-      × (rowsOf (drawnIn now-world .answer) ≡ markedRows (now-world .processor .marks) 25)
-  draw-fresh = drawn-accepted (now-world .processor) (now-world .memory) (now-world .rom) (now-world .picture) always-fresh
+pub draw-fresh : DrawFresh
+draw-fresh m rom picture os x y z fair g e =
+    draw-accepted x y z (run os (first m rom picture)) g (always-fresh m rom picture os fair) e

@@ -3,7 +3,7 @@
 -- Assumes nothing.
 use Prim.Native.Nat.{ℕ, _<_}
 use mathlib.Core.Path.{_≡_, refl, sym, ap, _∙_}
-use mathlib.Core.Bool.{Bool, true, false, not, _&&_, _||_, and-true, and-false, or-false, or-assoc}
+use mathlib.Core.Bool.{Bool, true, false, not, _&&_, _||_, and-true, and-false, or-false, or-assoc, false≢true}
 use mathlib.Core.List.{List}
 use lib.Dec.{eqb}
 use borrow.Author.Tests.{ne-eqb}
@@ -22,11 +22,12 @@ use Rattle.address.specs.Places.{blockAt}
 use Rattle.processor.specs.Bytes.{stored, oct, codeStored, krf}
 use Rattle.processor.specs.Access.{isUnlisted, isAstray, effect, Outcome, indirect}
 use Rattle.processor.specs.Draws.{DrawOutcome, drawnPage}
+use Rattle.kept.specs.Demands.{MarksExact}
 use Rattle.kept.specs.Quiet.{isMarker}
 use Rattle.kept.specs.Rules.{storeRule, codeRule, commandRule, accessRule, marksRow, clears}
-use Rattle.kept.specs.Runs.{Operation, write, read, turn, draw, World, step}
-use Rattle.kept.proofs.Marks.{store-marks-exact, indirect-marks-exact, phase-marks-exact, draw-marks-exact, unmarked, krf-marks, oct-marks}
-use Rattle.kept.proofs.Walk.{Ends, write-known, read-known, turn-known, draw-known, effect-keeps, commandIn, registered, chipOf}
+use Rattle.kept.specs.Runs.{Operation, write, read, turn, draw, World, lentOf, chipLent}
+use Rattle.kept.proofs.Marks.{store-marks-exact, indirect-marks-exact, phase-marks-exact, draw-marks-exact, unmarked, store-marks, krf-marks, oct-marks}
+use Rattle.kept.proofs.Walk.{Ends, write-known, read-known, turn-known, draw-known, effect-keeps, commandIn, afterWrite}
 
 module _ (r : ℕ) (l : r < 25) where
   abbrev marked : Chip → Bool
@@ -60,7 +61,7 @@ module _ (r : ℕ) (l : r < 25) where
   unruled : (c : Command) (k : Chip) → isMarker c ≡ false → marked (settled c k) ≡ (marked k || false)
   unruled c k n =
       pick-either (λ (j : Chip). marked j ≡ marked k) (isUnlisted c || isAstray c (k .processor)) k (effect c k) refl
-      (at _ _ (effect-keeps isMarker _ (unmarked _) c n k refl))
+      (at _ _ (effect-keeps isMarker _ (unmarked _) c n k (λ s. absurd (false≢true (sym n ∙ store-marks c s))) refl))
       ∙ sym (or-false (marked k))
 
   pointed : (b : Bool) (k done : Chip) (rule : Bool) → marked done ≡ (marked k || rule) → marked (pick (not b) k done) ≡ (marked k || (b && rule))
@@ -102,21 +103,23 @@ module _ (r : ℕ) (l : r < 25) where
         accepted = λ m a x u s. rw (m, a, x, and-true) (rw (u, s) at command);
       }
 
-  pub marks-exact :
-      (o : Operation) (w : World) →
-      isMarked (step o w .processor .marks) r ≡ ((isMarked (w .processor .marks) r && not (clears o w)) || marksRow o w r)
-  unfolding drawnPage
-  marks-exact (write address v) w = write-known _ address v (chipOf w) (access-exact address 0 (chipOf w) (registered address v (chipOf w)) refl)
-  marks-exact (read address) w = read-known _ address (chipOf w) (access-exact address _ (chipOf w) (w .processor) refl)
-  marks-exact (turn n) w =
-      let k = chipOf w in
-      turn-known (λ (o : Outcome). marked (o .left) ≡ ((marked k && true) || marksRow (turn n) w r)) n k
-      (λ m. rw (m, and-true, or-false))
-      (λ m e. rw (m, e, and-true, or-false))
-      (λ m e. rw (m, e, and-true) (phase-marks-exact n k r l))
-  marks-exact draw w =
-      let marked = isMarked (w .processor .marks) r in
-      draw-known (λ (o : DrawOutcome). isMarked (o .processor .marks) r ≡ ((marked && not (eqb (drawNumberOf (o .answer)) 0)) || false))
-      (w .processor) (w .memory) (w .rom) (w .picture)
-      (λ a e n. rw (ne-eqb (drawNumberOf a) 0 n, and-true, or-false))
-      (λ e can. rw and-false (draw-marks-exact (w .processor) (w .memory) (w .rom) (w .picture) r l))
+pub marks-exact : MarksExact
+unfolding drawnPage
+marks-exact (write x address v) w r l =
+    let k = chipLent x w in write-known _ address v k (access-exact r l address 0 k (afterWrite address v k) refl)
+marks-exact (read x address) w r l = let k = chipLent x w in read-known _ address k (access-exact r l address _ k (w .processor) refl)
+marks-exact (turn x n) w r l =
+    let k = chipLent x w in
+    turn-known (λ (o : Outcome). marked r l (o .left) ≡ ((marked r l k && true) || marksRow (turn x n) w r)) n k
+    (λ m. rw (m, and-true, or-false))
+    (λ m e. rw (m, e, and-true, or-false))
+    (λ m e. rw (m, e, and-true) (phase-marks-exact n k r l))
+marks-exact (draw x y z) w r l =
+    let m = lentOf x (w .memory) in
+    let rom = lentOf y (w .rom) in
+    let picture = lentOf z (w .picture) in
+    let before = isMarked (w .processor .marks) r in
+    draw-known (λ (o : DrawOutcome). isMarked (o .processor .marks) r ≡ ((before && not (eqb (drawNumberOf (o .answer)) 0)) || false))
+    (w .processor) m rom picture
+    (λ a e n. rw (ne-eqb (drawNumberOf a) 0 n, and-true, or-false))
+    (λ e can. rw and-false (draw-marks-exact (w .processor) m rom picture r l))

@@ -83,7 +83,7 @@ unfolding drawnPage
 draw-marks-exact p m rom picture r l = table-at (λ s. false) 25 r false l
 
 -- each command that stores marks too
-store-marks : (c : Command) → isStore c ≡ true → isMarker c ≡ true
+pub store-marks : (c : Command) → isStore c ≡ true → isMarker c ≡ true
 store-marks Nop e = e
 store-marks (Ind r true) e = e
 store-marks (Ind r false) e = refl
@@ -97,7 +97,7 @@ unmarked l =
     record {
       register = λ k n v e. e;
       lx = λ k m a e. e;
-      store = λ c s n t v k e. absurd (false≢true (sym n ∙ store-marks c s));
+      store = λ c s n t g v k e. absurd (false≢true (sym n ∙ store-marks c s));
       ind = λ r n k e. absurd (false≢true (sym n));
     }
 
@@ -109,7 +109,7 @@ unfolding krf
 krf-marks increments k = asked-keeps isMarker _ (unmarked _) increments false (codeStored _ _) refl
 
 pub krf-read-marks : (increments : Bool) (k : Chip) → krf true increments k .processor .marks ≡ k .processor .marks
-krf-read-marks increments k = effect-keeps isMarker _ (unmarked _) (Krf true increments) refl k refl
+krf-read-marks increments k = effect-keeps isMarker _ (unmarked _) (Krf true increments) refl k (λ s. absurd (false≢true s)) refl
 
 pub oct-marks :
     (auxiliary increments : Bool) (k : Chip) →
@@ -119,7 +119,7 @@ unfolding oct
 oct-marks auxiliary increments k = asked-keeps isMarker _ (unmarked _) increments auxiliary (stored _ _ _) refl
 
 pub oct-read-marks : (auxiliary increments : Bool) (k : Chip) → oct true auxiliary increments k .processor .marks ≡ k .processor .marks
-oct-read-marks auxiliary increments k = effect-keeps isMarker _ (unmarked _) (Oct true auxiliary increments) refl k refl
+oct-read-marks auxiliary increments k = effect-keeps isMarker _ (unmarked _) (Oct true auxiliary increments) refl k (λ s. absurd (false≢true s)) refl
 
 -- every other access marks nothing
 pub write-unmarked :

@@ -1,27 +1,38 @@
--- Demand 1: the number answered is that of the first condition, in the order of the rules, that holds.
+-- Demand 1: the number answered is that of the first condition, in the order of the rules, that holds, and the rules say what comes with it.
 -- Assumes nothing.
 use Prim.Native.Nat.{ℕ}
-use mathlib.Core.Path.{_≡_, sym}
+use mathlib.Core.Path.{_≡_, refl, sym, ap, _∙_}
 use mathlib.Core.List.{List}
+use mathlib.Core.Logic.{_≢_}
+use lib.Dec.{eqb}
+use borrow.Author.Tests.{ne-eqb}
 use Rattle.basics.specs.Bits.{bits}
+use Rattle.basics.specs.Choice.{pick}
+use Rattle.page.specs.Marks.{markedRows}
 use Rattle.processor.specs.declared.state.Processor.{Processor}
-use Rattle.command.specs.Answers.{numberOf, drawNumberOf}
-use Rattle.processor.specs.States.{Chip, withRegister}
-use Rattle.processor.specs.Access.{Outcome, written, readOut, turned}
+use Rattle.command.specs.declared.answer.Drawing.{Drawing}
+use Rattle.command.specs.declared.answer.Drawing.the-variants as drawing
+use Rattle.command.specs.Answers.{numberOf, valueOf, drawNumberOf, rowsOf}
+use Rattle.processor.specs.States.{Chip, registerRead}
+use Rattle.processor.specs.Access.{Outcome}
 use Rattle.processor.specs.Draws.{DrawOutcome, drawnPage, drawn}
-use Rattle.kept.specs.Orders.{firstOf, accessOrder, drawOrder, phaseOrder}
-use Rattle.kept.proofs.Walk.{Ends, write-known, read-known, turn-known, draw-known}
+use Rattle.kept.specs.Demands.{AnsweredInOrder}
+use Rattle.kept.specs.Orders.{firstOf, accessOrder, drawOrder, phaseOrder, isEarly, order, returned}
+use Rattle.kept.specs.Runs.{Operation, write, read, turn, draw, World, chipLent, lentOf, Reply, reply, replyTo, done}
+use Rattle.kept.proofs.Walk.{pick-same, Ends, write-known, read-known, turn-known, draw-known}
 
--- the number of an access or a phase change, and of a draw
-abbrev said : Outcome → ℕ
-said o = numberOf (o .answer)
+-- the answer of an access or a phase change, and of a draw
+abbrev said : Outcome → Reply
+said o = reply (numberOf (o .answer)) (valueOf (o .answer))
 
-abbrev said-of : DrawOutcome → ℕ
-said-of o = drawNumberOf (o .answer)
+abbrev drawSaid : DrawOutcome → Reply
+drawSaid o = reply (drawNumberOf (o .answer)) (rowsOf (o .answer))
 
-access-number :
-    (address v : ℕ) (k : Chip) (p : Processor) → Ends address v k p (λ (o : Outcome). said o ≡ firstOf (accessOrder address p (k .memory)))
-access-number address v k p =
+-- an access answers with v, or 0 before the register access
+access-answer :
+    (address v : ℕ) (k : Chip) (p : Processor) →
+    let n = firstOf (accessOrder address p (k .memory)) in Ends address v k p (λ (o : Outcome). said o ≡ reply n (pick (isEarly n) 0 v))
+access-answer address v k p =
     record {
       wrong-memory = λ m. rw m;
       wrong-address = λ m a. rw (m, a);
@@ -31,22 +42,40 @@ access-number address v k p =
       accepted = λ m a x u s. rw (m, a, x, u, s);
     }
 
--- a write: p is the state after the register has been written
-pub write-number :
-    (address v : ℕ) (k : Chip) →
-    said (written address v k) ≡ firstOf (accessOrder address (withRegister (k .processor) (bits 0 3 address) v) (k .memory))
-write-number address v k = write-known _ address v k (access-number address 0 k _)
+-- a write answers 0 in any case
+either-zero : (n : ℕ) → _≡_ {A = ℕ} (pick (isEarly n) 0 0) 0
+either-zero n = pick-same {A = ℕ} (isEarly n) 0
 
--- a read
-pub read-number : (address : ℕ) (k : Chip) → said (readOut address k) ≡ firstOf (accessOrder address (k .processor) (k .memory))
-read-number address k = read-known _ address k (access-number address _ k (k .processor))
+-- a refused draw has no rows
+refused-rows : (a : Drawing) (n : ℕ) → drawNumberOf a ≢ 0 → rowsOf a ≡ pick (eqb (drawNumberOf a) 0) n 0
+refused-rows (drawing.Accepted rows) n refused = absurd (refused refl)
+refused-rows drawing.WrongMemory n refused = refl
+refused-rows drawing.WrongRom n refused = refl
+refused-rows drawing.WrongPicture n refused = refl
+refused-rows drawing.NotBuilt n refused = refl
+refused-rows drawing.LowOrigin n refused = refl
 
--- a phase change
-pub turn-number : (n : ℕ) (k : Chip) → said (turned n k) ≡ firstOf (phaseOrder n (k .memory))
-turn-number n k = turn-known (λ (o : Outcome). said o ≡ firstOf (phaseOrder n (k .memory))) n k (λ m. rw m) (λ m e. rw (m, e)) (λ m e. rw (m, e))
-
--- a draw
-pub draw-number : (p : Processor) (m rom picture : List ℕ) → said-of (drawn p m rom picture) ≡ firstOf (drawOrder p m rom picture)
+draw-answer :
+    (p : Processor) (m rom picture : List ℕ) →
+    let n = firstOf (drawOrder p m rom picture) in drawSaid (drawn p m rom picture) ≡ reply n (pick (eqb n 0) (markedRows (p .marks) 25) 0)
 unfolding drawnPage
-draw-number p m rom picture =
-    draw-known (λ (o : DrawOutcome). said-of o ≡ firstOf (drawOrder p m rom picture)) p m rom picture (λ a e n. sym e) (λ e can. sym e)
+draw-answer p m rom picture =
+    let n = firstOf (drawOrder p m rom picture) in
+    let rows = markedRows (p .marks) 25 in
+    draw-known (λ (o : DrawOutcome). drawSaid o ≡ reply n (pick (eqb n 0) rows 0)) p m rom picture
+    (λ a e refused. rw e (ap (reply (drawNumberOf a)) (refused-rows a rows refused)))
+    (λ e can. rw e)
+
+pub answered-in-order : AnsweredInOrder
+answered-in-order (write x address v) w =
+    write-known _ address v (chipLent x w) (access-answer address 0 (chipLent x w) _)
+    ∙ ap (reply _) (either-zero (firstOf (order (write x address v) w)))
+answered-in-order (read x address) w = read-known _ address (chipLent x w) (access-answer address _ (chipLent x w) (w .processor))
+answered-in-order (turn x n) w =
+    turn-known (λ (o : Outcome). said o ≡ reply (firstOf (phaseOrder n (lentOf x (w .memory)))) 0) n (chipLent x w)
+    (λ m. rw m) (λ m e. rw (m, e)) (λ m e. rw (m, e))
+answered-in-order (draw x y z) w = draw-answer (w .processor) (lentOf x (w .memory)) (lentOf y (w .rom)) (lentOf z (w .picture))
+
+-- the number alone
+pub number-first : (o : Operation) (w : World) → done o w .number ≡ firstOf (order o w)
+number-first o w = ap (λ (a : Reply). a .number) (answered-in-order o w)

@@ -1,67 +1,157 @@
--- Each number from 0 to 9 is given by some input.
+-- Demand 1: each number from 0 to 9 is given, after a run of operations from power-up. The memory, the ROM and the picture are of zeros.
 -- Assumes nothing.
-use Prim.Native.Nat.{ℕ}
-use mathlib.Core.Path.{_≡_, _∙_}
+use Prim.Native.Nat.{ℕ, zero, suc, _+_, _<_, _≤_}
+use mathlib.Core.Path.{_≡_, refl, sym, ap, subst, _∙_}
+use mathlib.Core.Bool.{Bool, true, false, not, _&&_, _||_, and-true}
 use mathlib.Core.List.{List, [], _∷_}
-use lib.ListN.{length}
-use Rattle.basics.specs.Parts.{table}
-use Rattle.basics.proofs.Parts.{length-table}
-use Rattle.address.specs.Triples.{legalIn, onPage, legalY}
-use Rattle.shown.specs.Refusals.{refused7, refused8}
-use Rattle.processor.specs.declared.state.Processor.{Processor}
-use Rattle.command.specs.Answers.{numberOf, drawNumberOf}
-use Rattle.command.specs.Commands.{commandOf}
-use Rattle.processor.specs.States.{chip, powerUp, withRegister, withIndirect}
-use Rattle.processor.specs.Pointers.{pointerOf}
-use Rattle.processor.specs.Access.{written, turned}
-use Rattle.processor.specs.Draws.{drawn}
-use Rattle.kept.proofs.Numbers.{write-number, turn-number, draw-number}
+use mathlib.Core.Logic.{_≢_, inl, inr}
+use native.Mathlib.Omega.{arith}
+use lib.Dec.{eqb}
+use lib.ListN.{length, replicate, length-replicate, set, length-set}
+use borrow.Author.Tests.{eq-eqb}
+use Rattle.basics.specs.Below.{countBelow, anyBelow}
+use Rattle.basics.specs.Choice.{oneIf}
+use Rattle.basics.specs.Parts.{joined}
+use Rattle.basics.proofs.Below.{count-at-most, count-step}
 use Rattle.address.specs.Boards.{memoryBytes}
+use Rattle.address.specs.Places.{placeOf}
+use Rattle.address.specs.Rows.{rowY}
+use Rattle.address.specs.Triples.{legalIn, onPage, legalY}
+use Rattle.shown.specs.declared.Shown.{Shown}
 use Rattle.shown.specs.Lengths.{romBytes, columnBytes, pictureBytes}
+use Rattle.shown.specs.Refusals.{refused7, refused8, canDraw}
+use Rattle.page.specs.Codes.{codeOf}
+use Rattle.page.specs.Marks.{isMarked, markedRows, allMarked, noneMarked}
+use Rattle.picture.specs.Redraws.{redrawn}
+use Rattle.picture.proofs.Redrawing.{redrawn-long}
+use Rattle.reading.specs.Lists.{codePlace, codeHolds, rowHolds, cellHolds, slicesHold, hasTall, aboveHolds, onList}
+use Rattle.command.specs.declared.Command.{Command}
+use Rattle.command.specs.declared.Command.the-variants.{Ind, Oct}
+use Rattle.command.specs.Commands.{commandOf}
+use Rattle.processor.specs.declared.state.Processor.{Processor}
+use Rattle.processor.specs.States.{chip, powerUp, shownOf, withRegister, withMarks, indirectWritten}
+use Rattle.processor.specs.Bytes.{oct}
+use Rattle.processor.specs.Draws.{DrawOutcome, drawnPage}
+use Rattle.processor.specs.Access.{indirect}
+use Rattle.processor.specs.Pointers.{pointerOf}
+use Rattle.processor.specs.Sizes.{Sized}
+use Rattle.cell.specs.Cells.{cellOf, bichromeOf, setOf}
+use Rattle.page.specs.Halves.{isTall}
+use Rattle.kept.specs.Demands.{Reached, Gives, EachNumberReached, Redraws, DrawsReached, put, execute}
+use Rattle.kept.specs.Orders.{firstOf, order}
+use Rattle.kept.specs.Premises.{Fair, FairRun}
+use Rattle.kept.specs.Runs.{own, other, Operation, write, read, turn, draw, World, first, step, run, done, Reply, reply, replyTo}
+use Rattle.kept.proofs.Numbers.{number-first, answered-in-order}
+use Rattle.kept.proofs.Programs.{written-in, put-step, execute-step}
+use Rattle.kept.proofs.Refusals.{worldWith}
+use Rattle.kept.proofs.Sizes.{step-sized, run-sized, power-up-sized}
+use Rattle.kept.proofs.Walk.{draw-known}
 
-abbrev zeros : ℕ → List ℕ
-zeros n = table (λ i. 0) n
+unfoldable pub zeros : ℕ → List ℕ
+zeros n = replicate n 0
 
-long : (n : ℕ) → length (zeros n) ≡ n
-long n = length-table (λ i. 0) n
+pub long : (n : ℕ) → length (zeros n) ≡ n
+unfolding zeros
+long n = length-replicate n 0
 
--- a state with TGS bit 7 set
-abbrev raised : Processor
-raised = withIndirect powerUp (0 ∷ 128 ∷ 0 ∷ 0 ∷ 0 ∷ 0 ∷ 0 ∷ 0 ∷ []) []
+-- power-up
+abbrev pub picture : List ℕ
+picture = zeros (pictureBytes columnBytes)
 
-pub reached-0 : numberOf (written 0x20 0x00 (chip powerUp (zeros memoryBytes)) .answer) ≡ 0
+abbrev pub at-first : World
+at-first = first (zeros memoryBytes) (zeros romBytes) picture
+
+pub sized : Sized (at-first .processor)
+sized = power-up-sized
+
+-- an operation at once
+at-once : (o : Operation) (n : ℕ) → Fair o at-first → done o at-first .number ≡ n → Gives n
+at-once o n g e =
+    record { memory = zeros memoryBytes; rom = zeros romBytes; picture = picture; before = []; last = o; fair = (g, tt); happens = e }
+
+-- no list is as long as a memory, a ROM or a picture
+none-long : (n : ℕ) → 0 < n → length {A = ℕ} [] ≢ n
+none-long n l e = omega (arith, l, e)
+
+gives-0 : Gives 0
 unfolding powerUp commandOf
-reached-0 = write-number 0x20 0x00 (chip powerUp (zeros memoryBytes)) ∙ rw (long memoryBytes)
+gives-0 = at-once (write own 0x20 0x00) 0 tt (number-first (write own 0x20 0x00) at-first ∙ rw (long memoryBytes))
 
-pub reached-1 : numberOf (written 0x20 0x00 (chip powerUp []) .answer) ≡ 1
-reached-1 = write-number 0x20 0x00 (chip powerUp [])
+gives-1 : Gives 1
+gives-1 = at-once (write (other []) 0x20 0x00) 1 (none-long memoryBytes (omega arith)) (number-first (write (other []) 0x20 0x00) at-first)
 
-pub reached-2 : numberOf (written 0x30 0x00 (chip powerUp (zeros memoryBytes)) .answer) ≡ 2
-reached-2 = write-number 0x30 0x00 (chip powerUp (zeros memoryBytes)) ∙ rw (long memoryBytes)
+gives-2 : Gives 2
+gives-2 = at-once (write own 0x30 0x00) 2 tt (number-first (write own 0x30 0x00) at-first ∙ rw (long memoryBytes))
 
-pub reached-3 : numberOf (written 0x28 0x05 (chip powerUp (zeros memoryBytes)) .answer) ≡ 3
+gives-3 : Gives 3
 unfolding powerUp commandOf
-reached-3 = write-number 0x28 0x05 (chip powerUp (zeros memoryBytes)) ∙ rw (long memoryBytes)
+gives-3 = at-once (write own 0x28 0x05) 3 tt (number-first (write own 0x28 0x05) at-first ∙ rw (long memoryBytes))
 
--- KRF at X 40
-pub reached-4 : numberOf (written 0x28 0x00 (chip (withRegister powerUp 7 40) (zeros memoryBytes)) .answer) ≡ 4
-unfolding powerUp commandOf pointerOf legalIn onPage legalY
-reached-4 = write-number 0x28 0x00 (chip (withRegister powerUp 7 40) (zeros memoryBytes)) ∙ rw (long memoryBytes)
+gives-5 : Gives 5
+gives-5 =
+    let o = draw own (other []) own in
+    at-once o 5 (tt, none-long romBytes (omega arith), inl tt) (number-first o at-first ∙ rw (long memoryBytes))
 
-pub reached-5 : drawNumberOf (drawn powerUp (zeros memoryBytes) [] [] .answer) ≡ 5
-reached-5 = draw-number powerUp (zeros memoryBytes) [] [] ∙ rw (long memoryBytes)
-
-pub reached-6 : drawNumberOf (drawn powerUp (zeros memoryBytes) (zeros romBytes) [] .answer) ≡ 6
-reached-6 = draw-number powerUp (zeros memoryBytes) (zeros romBytes) [] ∙ rw (long memoryBytes, long romBytes)
-
-pub reached-7 : drawNumberOf (drawn raised (zeros memoryBytes) (zeros romBytes) (zeros (pictureBytes columnBytes)) .answer) ≡ 7
-unfolding refused7 powerUp
-reached-7 = draw-number raised (zeros memoryBytes) (zeros romBytes) (zeros (pictureBytes columnBytes)) ∙ rw (long memoryBytes, long romBytes, long (pictureBytes columnBytes))
+gives-6 : Gives 6
+gives-6 =
+    let o = draw own own (other []) in
+    at-once o 6 (tt, tt, inl (none-long (pictureBytes columnBytes) (omega arith))) (number-first o at-first ∙ rw (long memoryBytes, long romBytes))
 
 -- at power-up the origin is 0
-pub reached-8 : drawNumberOf (drawn powerUp (zeros memoryBytes) (zeros romBytes) (zeros (pictureBytes columnBytes)) .answer) ≡ 8
-unfolding refused7 refused8 powerUp
-reached-8 = draw-number powerUp (zeros memoryBytes) (zeros romBytes) (zeros (pictureBytes columnBytes)) ∙ rw (long memoryBytes, long romBytes, long (pictureBytes columnBytes))
+gives-8 : Gives 8
+unfolding powerUp refused7 refused8
+gives-8 =
+    at-once (draw own own own) 8 (tt, tt, inl tt)
+    (number-first (draw own own own) at-first ∙ rw (long memoryBytes, long romBytes, long (pictureBytes columnBytes)))
 
-pub reached-9 : numberOf (turned 2 (chip powerUp (zeros memoryBytes)) .answer) ≡ 9
-reached-9 = turn-number 2 (chip powerUp (zeros memoryBytes)) ∙ rw (long memoryBytes)
+gives-9 : Gives 9
+gives-9 = at-once (turn own 2) 9 tt (number-first (turn own 2) at-first ∙ rw (long memoryBytes))
+
+-- KRF at X 40, which is written to R7 first
+gives-4 : Gives 4
+unfolding powerUp commandOf pointerOf legalIn onPage legalY
+gives-4 =
+    record {
+      memory = zeros memoryBytes;
+      rom = zeros romBytes;
+      picture = picture;
+      before = put 7 40 ∷ [];
+      last = execute 0x00;
+      fair = (tt, (tt, tt));
+      happens =
+          subst (λ (w : World). done (execute 0x00) w .number ≡ 4) (sym (put-step at-first (long memoryBytes) 7 40 (omega arith)))
+          (number-first (execute 0x00) (written-in at-first 7 40) ∙ rw (long memoryBytes));
+    }
+
+-- IND: v written to R1 and from there to the register that the command names
+abbrev pub setting : ℕ → ℕ → List Operation
+setting v code = put 1 v ∷ execute code ∷ []
+
+abbrev pub set-up : ℕ → ℕ → ℕ → World
+set-up v code r = worldWith at-first (indirectWritten (withRegister (withRegister powerUp 1 v) 0 code) r) (zeros memoryBytes) picture
+
+pub setting-up : (v code r : ℕ) → commandOf code ≡ Ind r false → run (setting v code) at-first ≡ set-up v code r
+unfolding indirect
+setting-up v code r is =
+    ap (step (execute code)) (put-step at-first (long memoryBytes) 1 v (omega arith))
+    ∙ execute-step (written-in at-first 1 v) (long memoryBytes) (length-set (powerUp .registers) 1 v ∙ sized .0, sized .1, sized .2) code (Ind r false) is
+    refl refl refl
+
+-- 128 in TGS
+gives-7 : Gives 7
+unfolding powerUp commandOf indirectWritten refused7
+gives-7 =
+    record {
+      memory = zeros memoryBytes;
+      rom = zeros romBytes;
+      picture = picture;
+      before = setting 128 0x81;
+      last = draw own own own;
+      fair = (tt, (tt, ((tt, tt, inl tt), tt)));
+      happens =
+          subst (λ (w : World). done (draw own own own) w .number ≡ 7) (sym (setting-up 128 0x81 1 refl))
+          (number-first (draw own own own) (set-up 128 0x81 1) ∙ rw (long memoryBytes, long romBytes, long (pictureBytes columnBytes)));
+    }
+
+pub each-number-reached : EachNumberReached
+each-number-reached = (gives-0, gives-1, gives-2, gives-3, gives-4, gives-5, gives-6, gives-7, gives-8, gives-9)

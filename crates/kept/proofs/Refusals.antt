@@ -1,71 +1,82 @@
 -- Demand 1: what a refused operation leaves. After 3 or 4 the register access has happened, and nothing else; after the others nothing has
 -- changed.
 -- Assumes nothing.
-use Prim.Native.Nat.{ℕ, _<_}
-use mathlib.Core.Path.{_≡_, refl}
+use Prim.Native.Nat.{ℕ}
+use mathlib.Core.Path.{_≡_, refl, sym, ap, _∙_}
+use mathlib.Core.Bool.{Bool, true, false}
 use mathlib.Core.List.{List}
 use mathlib.Core.Logic.{_≢_}
-use native.Mathlib.Omega.{arith}
-use Rattle.basics.specs.Bits.{bits}
+use lib.Dec.{eqb}
+use borrow.Author.Tests.{ne-eqb}
+use Rattle.basics.specs.Choice.{pick}
 use Rattle.processor.specs.declared.state.Processor.{Processor}
-use Rattle.command.specs.declared.answer.Answer.{Answer}
-use Rattle.command.specs.declared.answer.Answer.the-variants as answer
 use Rattle.command.specs.Answers.{numberOf, drawNumberOf}
-use Rattle.processor.specs.States.{Chip, chip, withRegister}
-use Rattle.processor.specs.Access.{Outcome, outcome, written, readOut, turned}
+use Rattle.processor.specs.States.{Chip, chip}
+use Rattle.processor.specs.Access.{Outcome, turned}
 use Rattle.processor.specs.Draws.{DrawOutcome, drawnPage, drawn}
-use Rattle.kept.proofs.Walk.{Ends, write-known, read-known, turn-known, draw-known}
+use Rattle.kept.specs.Demands.{RefusalLeaves}
+use Rattle.kept.specs.Orders.{isLate}
+use Rattle.kept.specs.Runs.{Lent, own, other, Operation, write, read, turn, draw, World, done, lentOf, memoryLent, pictureLent, memoryKept, pictureKept, registered, chipLent, step}
+use Rattle.kept.proofs.Walk.{pick-same, Ends, afterWrite, write-known, read-known, turn-known, draw-known}
 
--- after 1 and 2 what there was, k; after 3 and 4 what the register access left, j
-abbrev Leaves : Chip → Chip → Outcome → Type 0
-Leaves k j o =
-    (numberOf (o .answer) ≡ 1 → o .left ≡ k) × (numberOf (o .answer) ≡ 2 → o .left ≡ k)
-    × (numberOf (o .answer) ≡ 3 → o .left ≡ j) × (numberOf (o .answer) ≡ 4 → o .left ≡ j)
+-- k is what there was, and p the state after the register access itself
+abbrev Leaves : Chip → Processor → Outcome → Type 0
+Leaves k p o =
+    numberOf (o .answer) ≢ 0 → (o .left .processor ≡ pick (isLate (numberOf (o .answer))) p (k .processor)) × (o .left .memory ≡ k .memory)
 
-module _ (k j : Chip) where
-  untouched : (a : Answer) → numberOf a < 3 → Leaves k j (outcome k a)
-  untouched a l = ((λ e. refl), (λ e. refl), (λ e. absurd (omega arith)), (λ e. absurd (omega arith)))
-
-  registered : (a : Answer) → 2 < numberOf a → Leaves k j (outcome j a)
-  registered a l = ((λ e. absurd (omega arith)), (λ e. absurd (omega arith)), (λ e. refl), (λ e. refl))
-
-  served : (done : Chip) (v : ℕ) → Leaves k j (outcome done (answer.Accepted v))
-  served done v = ((λ e. absurd (omega arith)), (λ e. absurd (omega arith)), (λ e. absurd (omega arith)), (λ e. absurd (omega arith)))
-
-access-leaves : (address v : ℕ) (k : Chip) (p : Processor) → Ends address v k p (Leaves k (chip p (k .memory)))
+access-leaves : (address v : ℕ) (k : Chip) (p : Processor) → Ends address v k p (Leaves k p)
 access-leaves address v k p =
-    let j = chip p (k .memory) in
     record {
-      wrong-memory = λ m. untouched k j answer.WrongMemory (omega arith);
-      wrong-address = λ m a. untouched k j answer.WrongAddress (omega arith);
-      not-executed = λ m a x. served k j j v;
-      not-listed = λ m a x u. registered k j (answer.NotListed v) (omega arith);
-      bad-pointer = λ m a x u s. registered k j (answer.BadPointer v) (omega arith);
-      accepted = λ m a x u s. served k j _ v;
+      wrong-memory = λ m n. (refl, refl);
+      wrong-address = λ m a n. (refl, refl);
+      not-executed = λ m a x n. absurd (n refl);
+      not-listed = λ m a x u n. (refl, refl);
+      bad-pointer = λ m a x u s n. (refl, refl);
+      accepted = λ m a x u s n. absurd (n refl);
     }
 
--- a write
-pub write-leaves :
-    (address v : ℕ) (k : Chip) → Leaves k (chip (withRegister (k .processor) (bits 0 3 address) v) (k .memory)) (written address v k)
-write-leaves address v k = write-known _ address v k (access-leaves address 0 k _)
+turn-leaves : (n : ℕ) (k : Chip) → Leaves k (k .processor) (turned n k)
+turn-leaves n k = turn-known (Leaves k (k .processor)) n k (λ m r. (refl, refl)) (λ m e r. (refl, refl)) (λ m e r. absurd (r refl))
 
--- a read changes no register by itself
-pub read-leaves : (address : ℕ) (k : Chip) → Leaves k k (readOut address k)
-read-leaves address k = read-known (Leaves k k) address k (access-leaves address _ k (k .processor))
+abbrev DrawLeaves : Processor → List ℕ → DrawOutcome → Type 0
+DrawLeaves p picture o = drawNumberOf (o .answer) ≢ 0 → (o .processor ≡ p) × (o .picture ≡ picture)
 
--- a phase change
-abbrev Unturned : Chip → Outcome → Type 0
-Unturned k o = (numberOf (o .answer) ≡ 1 → o .left ≡ k) × (numberOf (o .answer) ≡ 9 → o .left ≡ k)
-
-pub turn-leaves : (n : ℕ) (k : Chip) → Unturned k (turned n k)
-turn-leaves n k =
-    turn-known (Unturned k) n k (λ m. ((λ e. refl), (λ e. refl))) (λ m p. ((λ e. refl), (λ e. refl)))
-    (λ m p. ((λ e. absurd (omega arith)), (λ e. absurd (omega arith))))
-
--- a draw that is not accepted
-abbrev Undrawn : Processor → List ℕ → DrawOutcome → Type 0
-Undrawn p picture o = drawNumberOf (o .answer) ≢ 0 → (o .processor ≡ p) × (o .picture ≡ picture)
-
-pub draw-leaves : (p : Processor) (m rom picture : List ℕ) → Undrawn p picture (drawn p m rom picture)
+draw-leaves : (p : Processor) (m rom picture : List ℕ) → DrawLeaves p picture (drawn p m rom picture)
 unfolding drawnPage
-draw-leaves p m rom picture = draw-known (Undrawn p picture) p m rom picture (λ a e n u. (refl, refl)) (λ e can n. absurd (n refl))
+draw-leaves p m rom picture = draw-known (DrawLeaves p picture) p m rom picture (λ a e n u. (refl, refl)) (λ e can n. absurd (n refl))
+
+pub refusal-leaves : RefusalLeaves
+refusal-leaves (write x address v) w n =
+    let l = write-known (Leaves (chipLent x w) (registered (write x address v) w)) address v (chipLent x w) (access-leaves address 0 (chipLent x w) _) n in
+    (l .0, l .1, refl)
+refusal-leaves (read x address) w n =
+    let l = read-known (Leaves (chipLent x w) (w .processor)) address (chipLent x w) (access-leaves address _ (chipLent x w) (w .processor)) n in
+    (l .0, l .1, refl)
+refusal-leaves (turn x phase) w n = let l = turn-leaves phase (chipLent x w) n in (l .0, l .1, refl)
+refusal-leaves (draw x y z) w n =
+    let l = draw-leaves (w .processor) (lentOf x (w .memory)) (lentOf y (w .rom)) (lentOf z (w .picture)) n in
+    (l .0 ∙ sym (pick-same (isLate (done (draw x y z) w .number)) (w .processor)), refl, l .1)
+
+-- a world with another state, memory and picture
+abbrev pub worldWith : World → Processor → List ℕ → List ℕ → World
+worldWith w p m picture = record { processor = p; memory = m; rom = w .rom; picture = picture }
+
+pub worlds-same :
+    (w : World) (p q : Processor) (m n a b : List ℕ) → p ≡ q → m ≡ n → a ≡ b → worldWith w p m a ≡ worldWith w q n b
+worlds-same w p q m n a b ep em ea = rw (ep, em, ea)
+
+-- nothing is changed where the number is not 3 or 4, or no register was written
+memory-stays : (x : Lent) (before left : List ℕ) → left ≡ lentOf x before → memoryKept x before left ≡ before
+memory-stays own before left e = e
+memory-stays (other b) before left e = refl
+
+picture-stays : (z : Lent) (n : ℕ) (before left : List ℕ) → n ≢ 0 → left ≡ lentOf z before → pictureKept z n before left ≡ before
+picture-stays own n before left r e = e
+picture-stays (other b) n before left r e = rw (ne-eqb n 0 r)
+
+pub refusal-stays :
+    (o : Operation) (w : World) → done o w .number ≢ 0 → pick (isLate (done o w .number)) (registered o w) (w .processor) ≡ w .processor → step o w ≡ w
+refusal-stays o w n same =
+    let l = refusal-leaves o w n in
+    worlds-same w _ _ _ _ _ _ (l .0 ∙ same) (memory-stays (memoryLent o) (w .memory) _ (l .1))
+    (picture-stays (pictureLent o) (done o w .number) (w .picture) _ n (l .2))

@@ -1,8 +1,8 @@
--- Demand 2's round trip: what KRF or OCT stores at a legal pointer, a later one reads at a pointer with the same X, Y and Z, whatever the
--- state has become, as long as the memory is the one that was left.
+-- Demand 2's round trip: what an accepted KRF or OCT stores, a later one reads at a pointer with the same X, Y and Z, whatever the state has
+-- become, where nothing is stored between them.
 -- Assumes nothing.
-use Prim.Native.Nat.{ℕ, _<_}
-use mathlib.Core.Path.{_≡_, refl, ap, _∙_}
+use Prim.Native.Nat.{ℕ, zero, suc, _<_, _≤_}
+use mathlib.Core.Path.{_≡_, refl, sym, ap, _∙_}
 use mathlib.Core.Bool.{Bool, true, false}
 use mathlib.Core.List.{List}
 use native.Mathlib.Omega.{arith}
@@ -18,8 +18,20 @@ use Rattle.processor.specs.States.{chip, registerOf, cleared}
 use Rattle.processor.specs.Pointers.{pointerOf, nextX, incremented, incrementedIf}
 use Rattle.address.specs.Places.{blockAt, loaded}
 use Rattle.processor.specs.Bytes.{stored, oct, codeRead, codeStored, krf}
-use Rattle.kept.proofs.Stores.{stored-here, code-c, code-b, code-a}
 use Rattle.address.specs.Boards.{memoryBytes}
+use Rattle.command.specs.declared.Command.{Command}
+use Rattle.command.specs.declared.Command.the-variants.{Krf, Oct}
+use Rattle.processor.specs.Access.{effect}
+use Rattle.processor.specs.Sizes.{Sized}
+use Rattle.kept.specs.Demands.{CodeKept, ByteKept}
+use Rattle.kept.specs.Quiet.{commandRun, Quiet}
+use Rattle.kept.specs.Runs as runs
+use Rattle.kept.specs.Runs.{Lent, own, Operation, write, read, turn, draw, World, step, run, done, lentOf, memoryLent, memoryKept, registered}
+use Rattle.kept.proofs.Quiet.{quiet-run}
+use Rattle.kept.proofs.Ran.{isNop, command-ran}
+use Rattle.kept.proofs.Sizes.{step-sized, run-sized, power-up-sized}
+use Rattle.kept.proofs.Stores.{stored-here, code-c, code-b, code-a}
+use Rattle.kept.proofs.Walk.{not-false}
 
 -- an increment leaves R0 to R3
 increment-keeps : (auxiliary : Bool) (p : Processor) (i : ℕ) → i < 4 → registerOf (incremented auxiliary p) i ≡ registerOf p i
@@ -66,10 +78,10 @@ module _
   abbrev got : ℕ → ℕ
   got k = loaded (blockAt (pointerOf false q) k) left
 
-  abbrev pub codeRound : Processor
+  abbrev codeRound : Processor
   codeRound = krf true r (chip q (krf false w (chip p m) .memory)) .processor
 
-  pub round-c : registerOf codeRound 1 ≡ registerOf p 1
+  round-c : registerOf codeRound 1 ≡ registerOf p 1
   unfolding krf codeRead
   round-c =
       asked-keeps r false _ 1 (omega arith)
@@ -77,7 +89,7 @@ module _
       ∙ ap (λ (t : Triple). loaded (blockAt t 0) left) same
       ∙ code-c (pointerOf false p) (chip (cleared p) m) g l
 
-  pub round-b : registerOf codeRound 2 ≡ registerOf p 2
+  round-b : registerOf codeRound 2 ≡ registerOf p 2
   unfolding krf codeRead
   round-b =
       asked-keeps r false _ 2 (omega arith)
@@ -85,7 +97,7 @@ module _
       ∙ ap (λ (t : Triple). loaded (blockAt t 1) left) same
       ∙ code-b (pointerOf false p) (chip (cleared p) m) g l
 
-  pub round-a : registerOf codeRound 3 ≡ registerOf p 3
+  round-a : registerOf codeRound 3 ≡ registerOf p 3
   unfolding krf codeRead
   round-a =
       asked-keeps r false _ 3 (omega arith)
@@ -93,17 +105,90 @@ module _
       ∙ ap (λ (t : Triple). loaded (blockAt t 2) left) same
       ∙ code-a (pointerOf false p) (chip (cleared p) m) g l
 
+  round-code : (n : ℕ) → 1 ≤ n → n ≤ 3 → registerOf codeRound n ≡ registerOf p n
+  round-code zero a b = absurd (omega arith)
+  round-code (suc zero) a b = round-c
+  round-code (suc (suc zero)) a b = round-b
+  round-code (suc (suc (suc zero))) a b = round-a
+  round-code (suc (suc (suc (suc n)))) a b = absurd (omega arith)
+
 -- one byte by OCT, through either pointer each time
 module _
     (x y : Bool) (p q : Processor) (m : List ℕ) (w r : Bool) (g : legal (pointerOf x p) ≡ true) (l : length m ≡ memoryBytes)
     (same : pointerOf y q ≡ pointerOf x p) (eight : length (q .registers) ≡ 8) where
-  abbrev pub byteRound : Processor
+  abbrev byteRound : Processor
   byteRound = oct true y r (chip q (oct false x w (chip p m) .memory)) .processor
 
-  pub round-byte : registerOf byteRound 1 ≡ registerOf p 1
+  round-byte : registerOf byteRound 1 ≡ registerOf p 1
   unfolding oct
   round-byte =
       asked-keeps r y _ 1 (omega arith)
       ∙ getD-set-same (q .registers) 1 _ 0 (rw eight (omega arith))
       ∙ ap (λ (t : Triple). loaded t (stored (pointerOf x p) (registerOf p 1) (chip (cleared p) m) .memory)) same
       ∙ stored-here (pointerOf x p) (registerOf p 1) (chip (cleared p) m) g l
+
+-- the register access keeps the number of registers
+registered-eight : (o : Operation) (w : World) → Sized (w .processor) → length (registered o w .registers) ≡ 8
+registered-eight (write x address v) w s = length-set (w .processor .registers) (bits 0 3 address) v ∙ s .0
+registered-eight (read x address) w s = s .0
+registered-eight (turn x n) w s = s .0
+registered-eight (draw x y z) w s = s .0
+
+-- an operation on the kept memory: what its command ran on, and what is kept
+lent-own : (x : Lent) (m : List ℕ) → x ≡ own → lentOf x m ≡ m
+lent-own x m e = ap (λ (y : Lent). lentOf y m) e
+
+kept-own : (o : Operation) (w : World) → memoryLent o ≡ own → step o w .memory ≡ done o w .memory
+kept-own o w e = ap (λ (x : Lent). memoryKept x (w .memory) (done o w .memory)) e
+
+-- o stores, and q reads after a run in which nothing is stored
+module _ (w : World) (s : Sized (w .processor)) (o : Operation) (between : List Operation) (q : Operation) where
+  abbrev u : World
+  u = run between (step o w)
+
+  eight-then : length (registered q u .registers) ≡ 8
+  eight-then = registered-eight q u (run-sized between (step o w) (step-sized o w s))
+
+  -- c stores at a legal pointer and leaves m; d reads
+  module _ (c d : Command) (nc : isNop c ≡ false) (nd : isNop d ≡ false) (oo : memoryLent o ≡ own) (oq : memoryLent q ≡ own)
+      (ec : commandRun o w ≡ c) (ed : commandRun q u ≡ d) (quiet : Quiet between (step o w)) where
+    then-stored : u .memory ≡ effect c (chip (registered o w) (w .memory)) .memory
+    then-stored =
+        quiet-run between (step o w) quiet
+        ∙ kept-own o w oo
+        ∙ command-ran o w c nc ec .1
+        ∙ ap (λ (m : List ℕ). effect c (chip (registered o w) m) .memory) (lent-own (memoryLent o) (w .memory) oo)
+
+    then-read : step q u .processor ≡ effect d (chip (registered q u) (effect c (chip (registered o w) (w .memory)) .memory)) .processor
+    then-read =
+        command-ran q u d nd ed .0
+        ∙ ap (λ (m : List ℕ). effect d (chip (registered q u) m) .processor) (lent-own (memoryLent q) (u .memory) oq ∙ then-stored)
+
+    whole-then : length (w .memory) ≡ memoryBytes
+    whole-then = ap length (sym (lent-own (memoryLent o) (w .memory) oo)) ∙ command-ran o w c nc ec .2
+
+  pub code-kept-in :
+      (i j : Bool) → memoryLent o ≡ own → commandRun o w ≡ Krf false i → Quiet between (step o w) →
+      memoryLent q ≡ own → commandRun q u ≡ Krf true j → pointerOf false (registered q u) ≡ pointerOf false (registered o w) →
+      (n : ℕ) → 1 ≤ n → n ≤ 3 → registerOf (step q u .processor) n ≡ registerOf (registered o w) n
+  code-kept-in i j oo ec quiet oq ed same n a b =
+      ap (λ (p : Processor). registerOf p n) (then-read (Krf false i) (Krf true j) refl refl oo oq ec ed quiet)
+      ∙ round-code (registered o w) (registered q u) (w .memory) i j (not-false _ (command-ran o w (Krf false i) refl ec .3))
+      (whole-then (Krf false i) (Krf true j) refl refl oo oq ec ed quiet) same eight-then n a b
+
+  pub byte-kept-in :
+      (x y i j : Bool) → memoryLent o ≡ own → commandRun o w ≡ Oct false x i → Quiet between (step o w) →
+      memoryLent q ≡ own → commandRun q u ≡ Oct true y j → pointerOf y (registered q u) ≡ pointerOf x (registered o w) →
+      registerOf (step q u .processor) 1 ≡ registerOf (registered o w) 1
+  byte-kept-in x y i j oo ec quiet oq ed same =
+      ap (λ (p : Processor). registerOf p 1) (then-read (Oct false x i) (Oct true y j) refl refl oo oq ec ed quiet)
+      ∙ round-byte x y (registered o w) (registered q u) (w .memory) i j (not-false _ (command-ran o w (Oct false x i) refl ec .3))
+      (whole-then (Oct false x i) (Oct true y j) refl refl oo oq ec ed quiet) same eight-then
+
+pub code-kept : CodeKept
+code-kept m rom picture before between o q i j =
+    let w = runs.first m rom picture in code-kept-in (run before w) (run-sized before w power-up-sized) o between q i j
+
+pub byte-kept : ByteKept
+byte-kept m rom picture before between o q x y i j =
+    let w = runs.first m rom picture in byte-kept-in (run before w) (run-sized before w power-up-sized) o between q x y i j

@@ -9,20 +9,21 @@ use Rattle.processor.specs.declared.state.Processor.{Processor}
 use Rattle.command.specs.declared.answer.Answer.{Answer}
 use Rattle.processor.specs.declared.execute.Answered.{Answered}
 use Rattle.processor.specs.declared.draw.Drawn.{Drawn}
-use Rattle.processor.specs.Access.{Outcome, outcomeOf}
-use Rattle.processor.specs.Draws.{DrawOutcome, drawOutcomeOf, drawnWith}
+use Rattle.processor.specs.Access.{Outcome}
+use Rattle.processor.specs.Draws.{DrawOutcome, drawnWith}
+use Rattle.kept.specs.Demands.{OneAccess, OneDraw}
 
 abbrev answeredWith : Processor → Answer → Answered
 answeredWith p a = record { processor = p; answer = a }
 
 -- write, read and turn
-pub access-unique : (r s : Answered) (m n : List ℕ) (o : Outcome) → outcomeOf r m ≡ o → outcomeOf s n ≡ o → (r ≡ s) × (m ≡ n)
-access-unique r s m n o a b =
+pub one-access : OneAccess
+one-access r s m n o a b =
     let e = a ∙ sym b in
     (ap (λ (x : Outcome). answeredWith (x .left .processor) (x .answer)) e, ap (λ (x : Outcome). x .left .memory) e)
 
 -- draw
-pub draw-unique : (r s : Drawn) (v w : List ℕ) (o : DrawOutcome) → drawOutcomeOf r v ≡ o → drawOutcomeOf s w ≡ o → (r ≡ s) × (v ≡ w)
-draw-unique r s v w o a b =
+pub one-draw : OneDraw
+one-draw r s v w o a b =
     let e = a ∙ sym b in
     (ap (λ (x : DrawOutcome). drawnWith (x .processor) (x .answer)) e, ap (λ (x : DrawOutcome). x .picture) e)

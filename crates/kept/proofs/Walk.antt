@@ -1,17 +1,20 @@
 -- The walk through an operation, taken once. The ends of an access, of a phase change and of a draw, each with what is known there; and a
--- property that each part of an operation keeps is kept by every operation and by every run.
+-- property that each part of an access keeps is kept by every access.
 -- Assumes nothing.
 use Prim.Native.Nat.{ℕ}
-use mathlib.Core.Path.{_≡_, refl}
-use mathlib.Core.Bool.{Bool, true, false}
+use mathlib.Core.Path.{_≡_, refl, sym}
+use mathlib.Core.Bool.{Bool, true, false, not, false≢true}
 use mathlib.Core.List.{List, [], _∷_}
 use mathlib.Core.Logic.{_≢_}
 use native.Mathlib.Omega.{arith}
 use lib.Dec.{eqb, leb}
 use lib.ListN.{length}
+use Rattle.basics.specs.Choice.{pick}
 use Rattle.basics.proofs.Choice.{pick-known, pick-either}
 use Rattle.basics.specs.Bits.{bits, isSet}
-use Rattle.address.specs.Boards.{memoryBytes}
+use Rattle.address.specs.Boards.{boardDistricts, memoryBytes}
+use Rattle.address.specs.Triples.{legal}
+use Rattle.address.proofs.Places.{legal-blocks}
 use Rattle.address.specs.declared.triple.Triple.{Triple}
 use Rattle.shown.specs.Lengths.{romBytes, columnBytes, pictureBytes}
 use Rattle.shown.specs.Refusals.{refused7, refused8, canDraw}
@@ -24,14 +27,14 @@ use Rattle.command.specs.declared.answer.Drawing.the-variants as drawing
 use Rattle.command.specs.Answers.{drawNumberOf}
 use Rattle.command.specs.Commands.{commandOf}
 use Rattle.processor.specs.States.{Chip, chip, registerOf, registerRead, withRegister, withLx, indirectWritten}
-use Rattle.processor.specs.Pointers.{incremented, incrementedIf}
+use Rattle.processor.specs.Pointers.{pointerOf, incremented, incrementedIf}
 use Rattle.processor.specs.Bytes.{stored, oct, codeRead, codeStored, krf}
 use Rattle.processor.specs.Access.{Outcome, outcome, isUnlisted, isAstray, effect, indirect, ran, executed, checked, written, readOut, phased, turned}
 use Rattle.processor.specs.Draws.{DrawOutcome, drawOutcome, drawnPage, drawn}
 use Rattle.kept.specs.Orders.{firstOf, drawOrder}
 use Rattle.kept.specs.Quiet.{isStore}
 use Rattle.kept.specs.Rules.{isShown}
-use Rattle.kept.specs.Runs.{Operation, write, read, turn, draw, World, step, run, redone, drawnIn}
+use Rattle.kept.specs.Runs.{Operation, World, step, run}
 
 -- the tests of an access before its command: the memory's length, and the address's high bits
 abbrev pub isWhole : Chip → Bool
@@ -78,12 +81,12 @@ access-known P address v k p ends =
     (ends .wrong-memory)
 
 -- a write: its register is written first
-abbrev pub registered : ℕ → ℕ → Chip → Processor
-registered address v k = withRegister (k .processor) (bits 0 3 address) v
+abbrev pub afterWrite : ℕ → ℕ → Chip → Processor
+afterWrite address v k = withRegister (k .processor) (bits 0 3 address) v
 
-pub write-known : (P : Outcome → Type 0) (address v : ℕ) (k : Chip) → Ends address 0 k (registered address v k) P → P (written address v k)
+pub write-known : (P : Outcome → Type 0) (address v : ℕ) (k : Chip) → Ends address 0 k (afterWrite address v k) P → P (written address v k)
 unfolding written
-write-known P address v k ends = access-known P address 0 k (registered address v k) ends
+write-known P address v k ends = access-known P address 0 k (afterWrite address v k) ends
 
 -- a read changes no register by itself
 pub read-known :
@@ -128,8 +131,18 @@ draw-known P p m rom picture refused accepted =
 pub record KeptBy (barred : Command → Bool) (K : Chip → Type 0) : Type 0 where
   pub register : (k : Chip) (n v : ℕ) → K k → K (chip (withRegister (k .processor) n v) (k .memory))
   pub lx : (k : Chip) (m a : Bool) → K k → K (chip (withLx (k .processor) m a) (k .memory))
-  pub store : (c : Command) → isStore c ≡ true → barred c ≡ false → (t : Triple) (v : ℕ) (k : Chip) → K k → K (stored t v k)
+  pub store :
+      (c : Command) → isStore c ≡ true → barred c ≡ false → (t : Triple) → legal t ≡ true → (v : ℕ) (k : Chip) → K k → K (stored t v k)
   pub ind : (r : ℕ) → barred (Ind r false) ≡ false → (k : Chip) → K k → K (chip (indirectWritten (k .processor) r) (k .memory))
+
+-- a choice between the same is it
+pub pick-same : {A : Type 0} (b : Bool) (x : A) → pick b x x ≡ x
+pick-same b x = pick-either (λ y. y ≡ x) b x x refl refl
+
+-- a pointer that does not stray is legal
+pub not-false : (b : Bool) → not b ≡ false → b ≡ true
+not-false true e = refl
+not-false false e = absurd (false≢true (sym e))
 
 -- and so by every command that is not barred, and by every access that executes none that is
 module _ (barred : Command → Bool) (K : Chip → Type 0) (by : KeptBy barred K) where
@@ -147,21 +160,30 @@ module _ (barred : Command → Bool) (K : Chip → Type 0) (by : KeptBy barred K
   asked-keeps true auxiliary k h = increment-keeps auxiliary k h
   asked-keeps false auxiliary k h = h
 
-  pub effect-keeps : (c : Command) → barred c ≡ false → (k : Chip) → K k → K (effect c k)
+  -- a command that stores has a legal pointer, since it is not refused
+  pub effect-keeps :
+      (c : Command) → barred c ≡ false → (k : Chip) → (isStore c ≡ true → isAstray c (k .processor) ≡ false) → K k → K (effect c k)
   unfolding indirect krf codeRead codeStored oct
-  effect-keeps Nop n k h = h
-  effect-keeps (Ind r true) n k h = by .register k 1 _ h
-  effect-keeps (Ind r false) n k h = by .ind r n k h
-  effect-keeps (Krf true increments) n k h =
+  effect-keeps Nop n k g h = h
+  effect-keeps (Ind r true) n k g h = by .register k 1 _ h
+  effect-keeps (Ind r false) n k g h = by .ind r n k h
+  effect-keeps (Krf true increments) n k g h =
       asked-keeps increments false _ (by .register _ 3 _ (by .register _ 2 _ (by .register _ 1 _ (by .lx k false false h))))
-  effect-keeps (Krf false increments) n k h =
+  effect-keeps (Krf false increments) n k g h =
+      let t = pointerOf false (k .processor) in
+      let g0 = legal-blocks boardDistricts t 0 (not-false (legal t) (g refl)) in
+      let g1 = legal-blocks boardDistricts t 1 (not-false (legal t) (g refl)) in
+      let g2 = legal-blocks boardDistricts t 2 (not-false (legal t) (g refl)) in
       let s = by .store (Krf false increments) refl n in
-      asked-keeps increments false _ (s _ _ _ (s _ _ _ (s _ _ _ (by .lx k false false h))))
-  effect-keeps (Oct true auxiliary increments) n k h = asked-keeps increments auxiliary _ (by .register _ 1 _ (by .lx k false false h))
-  effect-keeps (Oct false auxiliary increments) n k h =
-      asked-keeps increments auxiliary _ (by .store (Oct false auxiliary increments) refl n _ _ _ (by .lx k false false h))
-  effect-keeps NotListed n k h = h
+      asked-keeps increments false _ (s _ g2 _ _ (s _ g1 _ _ (s _ g0 _ _ (by .lx k false false h))))
+  effect-keeps (Oct true auxiliary increments) n k g h = asked-keeps increments auxiliary _ (by .register _ 1 _ (by .lx k false false h))
+  effect-keeps (Oct false auxiliary increments) n k g h =
+      let t = pointerOf auxiliary (k .processor) in
+      asked-keeps increments auxiliary _
+      (by .store (Oct false auxiliary increments) refl n t (not-false (legal t) (g refl)) _ _ (by .lx k false false h))
+  effect-keeps NotListed n k g h = h
 
+  -- an accepted access alone runs its command
   access-keeps :
       (address v : ℕ) (k : Chip) (p : Processor) → (isSet 3 address ≡ true → barred (commandIn p) ≡ false) → K k → K (chip p (k .memory)) →
       Ends address v k p (λ (o : Outcome). K (o .left))
@@ -172,12 +194,12 @@ module _ (barred : Command → Bool) (K : Chip → Type 0) (by : KeptBy barred K
         not-executed = λ m a x. j;
         not-listed = λ m a x u. j;
         bad-pointer = λ m a x u s. j;
-        accepted = λ m a x u s. effect-keeps (commandIn p) (n x) (chip p (k .memory)) j;
+        accepted = λ m a x u s. effect-keeps (commandIn p) (n x) (chip p (k .memory)) (λ z. s) j;
       }
 
   pub write-keeps :
-      (address v : ℕ) (k : Chip) → (isSet 3 address ≡ true → barred (commandIn (registered address v k)) ≡ false) → K k → K (written address v k .left)
-  write-keeps address v k n h = write-known _ address v k (access-keeps address 0 k (registered address v k) n h (by .register k _ v h))
+      (address v : ℕ) (k : Chip) → (isSet 3 address ≡ true → barred (commandIn (afterWrite address v k)) ≡ false) → K k → K (written address v k .left)
+  write-keeps address v k n h = write-known _ address v k (access-keeps address 0 k (afterWrite address v k) n h (by .register k _ v h))
 
   pub read-keeps : (address : ℕ) (k : Chip) → (isSet 3 address ≡ true → barred (commandIn (k .processor)) ≡ false) → K k → K (readOut address k .left)
   read-keeps address k n h = read-known _ address k (access-keeps address _ k (k .processor) n h h)
@@ -194,27 +216,3 @@ run-known W hands (o ∷ os) w h = run-known W hands os (step o w) (hands o os w
 
 abbrev pub noneBarred : Command → Bool
 noneBarred c = false
-
--- the state and the memory of a world, and a world with others
-abbrev pub chipOf : World → Chip
-chipOf w = chip (w .processor) (w .memory)
-
-abbrev pub withChip : World → Chip → World
-withChip w k = record { processor = k .processor; memory = k .memory; rom = w .rom; picture = w .picture }
-
--- W is kept by each kind of operation, whatever command runs
-pub record KeptByAll (W : World → Type 0) : Type 0 where
-  pub access : (w : World) → KeptBy noneBarred (λ k. W (withChip w k))
-  pub turning : (w : World) (n : ℕ) → W w → W (withChip w (phased n (chipOf w)))
-  pub drawing : (w : World) → W w → W (redone (drawnIn w) w)
-
--- and so by every operation, and by every run
-module _ (W : World → Type 0) (by : KeptByAll W) where
-  pub step-keeps : (o : Operation) (w : World) → W w → W (step o w)
-  step-keeps (write address v) w h = write-keeps noneBarred _ (by .access w) address v (chipOf w) (λ x. refl) h
-  step-keeps (read address) w h = read-keeps noneBarred _ (by .access w) address (chipOf w) (λ x. refl) h
-  step-keeps (turn n) w h = turn-keeps (λ k. W (withChip w k)) n (chipOf w) h (by .turning w n h)
-  step-keeps draw w h = by .drawing w h
-
-  pub run-keeps : (os : List Operation) (w : World) → W w → W (run os w)
-  run-keeps os w h = run-known (λ os u. W u) (λ o os u g. step-keeps o u g) os w h

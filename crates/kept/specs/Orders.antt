@@ -1,7 +1,7 @@
--- The order of the refusals, as the rules list it.
+-- The order of the refusals, as the rules list it, and what each operation returns.
 -- Assumes nothing.
 use Prim.Native.Nat.{ℕ}
-use mathlib.Core.Bool.{Bool, not, _&&_}
+use mathlib.Core.Bool.{Bool, not, _&&_, _||_}
 use mathlib.Core.List.{List, [], _∷_}
 use lib.Dec.{eqb, leb}
 use lib.ListN.{length}
@@ -12,8 +12,10 @@ use Rattle.shown.specs.Lengths.{romBytes, columnBytes, pictureBytes}
 use Rattle.shown.specs.Refusals.{refused7, refused8}
 use Rattle.processor.specs.declared.state.Processor.{Processor}
 use Rattle.command.specs.Commands.{commandOf}
-use Rattle.processor.specs.States.{registerOf, shownOf}
+use Rattle.page.specs.Marks.{markedRows}
+use Rattle.processor.specs.States.{registerOf, registerRead, shownOf}
 use Rattle.processor.specs.Access.{isUnlisted, isAstray}
+use Rattle.kept.specs.Runs.{Operation, write, read, turn, draw, World, lentOf, registered}
 
 -- a condition and the number that it gives
 pub record Refusal : Type 0 where
@@ -50,3 +52,25 @@ drawOrder p m rom picture =
 -- phase 1, 9
 abbrev pub phaseOrder : ℕ → List ℕ → List Refusal
 phaseOrder n m = gives (not (eqb (length m) memoryBytes)) 1 ∷ gives (not (leb n 1)) 9 ∷ []
+
+-- of each operation, with what it is lent
+abbrev pub order : Operation → World → List Refusal
+order (write x address v) w = accessOrder address (registered (write x address v) w) (lentOf x (w .memory))
+order (read x address) w = accessOrder address (w .processor) (lentOf x (w .memory))
+order (turn x n) w = phaseOrder n (lentOf x (w .memory))
+order (draw x y z) w = drawOrder (w .processor) (lentOf x (w .memory)) (lentOf y (w .rom)) (lentOf z (w .picture))
+
+-- 1 and 2 come before the register access, 3 and 4 after it
+abbrev pub isEarly : ℕ → Bool
+isEarly n = eqb n 1 || eqb n 2
+
+abbrev pub isLate : ℕ → Bool
+isLate n = eqb n 3 || eqb n 4
+
+-- what is returned with number n: a write or a phase change 0; a read the value from before, but 0 with 1 and 2; a draw the number of marked
+-- rows, refused 0
+abbrev pub returned : Operation → World → ℕ → ℕ
+returned (write x address v) w n = 0
+returned (read x address) w n = pick (isEarly n) 0 (registerRead (w .processor) (bits 0 3 address))
+returned (turn x phase) w n = 0
+returned (draw x y z) w n = pick (eqb n 0) (markedRows (w .processor .marks) 25) 0

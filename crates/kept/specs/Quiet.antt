@@ -1,14 +1,16 @@
--- Operations that store nothing.
+-- The command that an operation executes, and operations that store nothing.
 -- Assumes nothing.
 use mathlib.Core.Path.{_≡_}
 use mathlib.Core.Bool.{Bool, true, false, _&&_}
 use mathlib.Core.List.{List, [], _∷_}
-use Rattle.basics.specs.Bits.{bits, isSet}
+use lib.Dec.{eqb}
+use Rattle.basics.specs.Bits.{isSet}
+use Rattle.basics.specs.Choice.{pick}
 use Rattle.command.specs.declared.Command.{Command}
 use Rattle.command.specs.declared.Command.the-variants.{Nop, Ind, Krf, Oct, NotListed}
 use Rattle.command.specs.Commands.{commandOf}
-use Rattle.processor.specs.States.{registerOf, withRegister}
-use Rattle.kept.specs.Runs.{Operation, write, read, turn, draw, World, step}
+use Rattle.processor.specs.States.{registerOf}
+use Rattle.kept.specs.Runs.{Operation, write, read, turn, draw, World, done, registered, step}
 
 -- of the commands, KRF and OCT store, unless they read
 abbrev pub isStore : Command → Bool
@@ -29,12 +31,19 @@ isMarker (Krf reads increments) = isStore (Krf reads increments)
 isMarker (Oct reads auxiliary increments) = isStore (Oct reads auxiliary increments)
 isMarker NotListed = false
 
--- an access stores when it executes such a command; a phase change and a draw never do
+-- bit 3 of the address asks for execution
+abbrev pub asks : Operation → Bool
+asks (write x address v) = isSet 3 address
+asks (read x address) = isSet 3 address
+asks (turn x n) = false
+asks (draw x y z) = false
+
+-- the command that an operation executes: none, NOP, where it is refused or asks for none
+abbrev pub commandRun : Operation → World → Command
+commandRun o w = pick (asks o && eqb (done o w .number) 0) (commandOf (registerOf (registered o w) 0)) Nop
+
 abbrev pub stores : Operation → World → Bool
-stores (write address v) w = isSet 3 address && isStore (commandOf (registerOf (withRegister (w .processor) (bits 0 3 address) v) 0))
-stores (read address) w = isSet 3 address && isStore (commandOf (registerOf (w .processor) 0))
-stores (turn n) w = false
-stores draw w = false
+stores o w = isStore (commandRun o w)
 
 -- no operation of a run stores
 abbrev pub Quiet : List Operation → World → Type 0

@@ -15,12 +15,11 @@ use Rattle.reading.specs.Marks.{flashIn}
 use Rattle.command.specs.declared.Command.{Command}
 use Rattle.command.specs.declared.Command.the-variants.{Nop, Ind, Krf, Oct, NotListed}
 use Rattle.processor.specs.declared.state.Processor.{Processor}
-use Rattle.command.specs.Answers.{drawNumberOf}
 use Rattle.command.specs.Commands.{commandOf}
-use Rattle.processor.specs.States.{Chip, chip, registerOf, shownOf, withRegister, cleared}
+use Rattle.processor.specs.States.{Chip, chip, registerOf, shownOf, cleared}
 use Rattle.processor.specs.Pointers.{pointerOf}
 use Rattle.processor.specs.Bytes.{stored}
-use Rattle.kept.specs.Runs.{Operation, write, read, turn, draw, World, drawnIn}
+use Rattle.kept.specs.Runs.{Operation, write, read, turn, draw, World, lentOf, chipLent, registered, done}
 
 -- a draw would get neither 7 nor 8
 abbrev pub isShown : Processor → Bool
@@ -68,14 +67,14 @@ accessRule address k r =
     eqb (length (k .memory)) memoryBytes && (eqb (bits 4 4 address) 2 && (isSet 3 address && commandRule (commandOf (registerOf (k .processor) 0)) k r))
 
 abbrev pub marksRow : Operation → World → ℕ → Bool
-marksRow (write address v) w r = accessRule address (chip (withRegister (w .processor) (bits 0 3 address) v) (w .memory)) r
-marksRow (read address) w r = accessRule address (chip (w .processor) (w .memory)) r
-marksRow (turn n) w r = eqb (length (w .memory)) memoryBytes && (leb n 1 && phaseRule n (chip (w .processor) (w .memory)) r)
-marksRow draw w r = false
+marksRow (write x address v) w r = accessRule address (chip (registered (write x address v) w) (lentOf x (w .memory))) r
+marksRow (read x address) w r = accessRule address (chipLent x w) r
+marksRow (turn x n) w r = eqb (length (lentOf x (w .memory))) memoryBytes && (leb n 1 && phaseRule n (chipLent x w) r)
+marksRow (draw x y z) w r = false
 
 -- an accepted draw clears the marks
 abbrev pub clears : Operation → World → Bool
-clears (write address v) w = false
-clears (read address) w = false
-clears (turn n) w = false
-clears draw w = eqb (drawNumberOf (drawnIn w .answer)) 0
+clears (write x address v) w = false
+clears (read x address) w = false
+clears (turn x n) w = false
+clears (draw x y z) w = eqb (done (draw x y z) w .number) 0

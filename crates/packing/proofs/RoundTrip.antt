@@ -9,7 +9,8 @@ use lib.ListN.{length, getD, take, drop, replicate, length-append, length-map}
 use lib.Seq.{take-at, drop-at, drop-drop, getD-drop}
 use Rattle.basics.specs.Choice.{oneIf}
 use Rattle.processor.specs.declared.state.Processor.{Processor}
-use Rattle.packing.specs.Layouts.{packed, unpacked, isOn, Sized}
+use Rattle.processor.specs.Sizes.{Sized}
+use Rattle.packing.specs.Layouts.{packed, unpacked, isOn}
 use Rattle.packing.proofs.Parts.{length-part, length-marks}
 
 -- marks as bytes and back

@@ -2,10 +2,9 @@
 -- Assumes nothing.
 use Prim.Native.Nat.{ℕ}
 use mathlib.Core.Bool.{Bool, not}
-use mathlib.Core.Path.{_≡_}
 use mathlib.Core.List.{List, [], _∷_, _++_, map}
 use lib.Dec.{eqb}
-use lib.ListN.{length, getD, take, drop, replicate}
+use lib.ListN.{getD, take, drop, replicate}
 use Rattle.basics.specs.Choice.{oneIf}
 use Rattle.processor.specs.declared.state.Processor.{Processor}
 
@@ -28,8 +27,3 @@ unpacked bytes =
       phase = getD bytes 18 0;
       marks = map isOn (take 25 (drop 19 bytes));
     }
-
--- as long as a processor's arrays are: 8 registers, 8 indirect registers and 25 marks. (Every processor of the code is; a definition's lists
--- could be of any length.)
-abbrev pub Sized : Processor → Type 0
-Sized p = (length (p .registers) ≡ 8) × (length (p .indirect) ≡ 8) × (length (p .marks) ≡ 25)

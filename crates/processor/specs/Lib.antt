@@ -3,3 +3,4 @@ pub mod Pointers
 pub mod Bytes
 pub mod Access
 pub mod Draws
+pub mod Sizes

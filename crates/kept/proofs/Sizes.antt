@@ -17,9 +17,9 @@ use Rattle.processor.specs.States.{Chip, powerUp, registerOf, indirectWritten}
 use Rattle.processor.specs.Bytes.{stored}
 use Rattle.processor.specs.Access.{Outcome, written, readOut, phased, turned}
 use Rattle.processor.specs.Draws.{DrawOutcome, drawnPage, drawn}
-use Rattle.kept.specs.Runs.{Operation, World, step, run}
-use Rattle.kept.proofs.Walk.{draw-known, KeptBy, write-keeps, read-keeps, turn-keeps, noneBarred, KeptByAll, chipOf, step-keeps, run-keeps}
-use Rattle.packing.specs.Layouts.{Sized}
+use Rattle.processor.specs.Sizes.{Sized}
+use Rattle.kept.specs.Runs.{Operation, write, read, turn, draw, World, lentOf, chipLent, step, run}
+use Rattle.kept.proofs.Walk.{draw-known, KeptBy, write-keeps, read-keeps, turn-keeps, noneBarred, run-known}
 
 abbrev Long : List Bool → Type 0
 Long marks = length marks ≡ 25
@@ -50,7 +50,7 @@ sized =
     record {
       register = λ k n v s. (length-set (k .processor .registers) n v ∙ s .0, s .1, s .2);
       lx = λ k m a s. s;
-      store = λ c b n t v k s. stored-sized t v k s;
+      store = λ c b n t g v k s. stored-sized t v k s;
       ind = λ r n k s. indirect-sized r (k .processor) s;
     }
 
@@ -58,37 +58,32 @@ sized =
 abbrev LeftSized : Outcome → Type 0
 LeftSized o = SizedChip (o .left)
 
-pub written-sized : (address v : ℕ) (k : Chip) → SizedChip k → LeftSized (written address v k)
+written-sized : (address v : ℕ) (k : Chip) → SizedChip k → LeftSized (written address v k)
 written-sized address v k s = write-keeps noneBarred SizedChip sized address v k (λ x. refl) s
 
-pub read-sized : (address : ℕ) (k : Chip) → SizedChip k → LeftSized (readOut address k)
+read-sized : (address : ℕ) (k : Chip) → SizedChip k → LeftSized (readOut address k)
 read-sized address k s = read-keeps noneBarred SizedChip sized address k (λ x. refl) s
 
-pub turned-sized : (n : ℕ) (k : Chip) → SizedChip k → LeftSized (turned n k)
+turned-sized : (n : ℕ) (k : Chip) → SizedChip k → LeftSized (turned n k)
 turned-sized n k s = turn-keeps SizedChip n k s (phased-sized n k s)
 
 -- the draw
 abbrev DrawnSized : DrawOutcome → Type 0
 DrawnSized o = Sized (o .processor)
 
-pub drawn-sized : (p : Processor) (m rom picture : List ℕ) → Sized p → DrawnSized (drawn p m rom picture)
+drawn-sized : (p : Processor) (m rom picture : List ℕ) → Sized p → DrawnSized (drawn p m rom picture)
 unfolding drawnPage
 drawn-sized p m rom picture s = draw-known DrawnSized p m rom picture (λ a e n. s) (λ e can. (s .0, s .1, length-table (λ r. false) 25))
 
--- each operation, and so each run from power-up
-sized-in : KeptByAll (λ (w : World). Sized (w .processor))
-sized-in =
-    record {
-      access = λ w. sized;
-      turning = λ w n s. phased-sized n (chipOf w) s;
-      drawing = λ w s. drawn-sized (w .processor) (w .memory) (w .rom) (w .picture) s;
-    }
-
+-- each operation, whatever it is lent, and so each run from power-up
 pub step-sized : (o : Operation) (w : World) → Sized (w .processor) → Sized (step o w .processor)
-step-sized o w s = step-keeps _ sized-in o w s
+step-sized (write x address v) w s = written-sized address v (chipLent x w) s
+step-sized (read x address) w s = read-sized address (chipLent x w) s
+step-sized (turn x n) w s = turned-sized n (chipLent x w) s
+step-sized (draw x y z) w s = drawn-sized (w .processor) (lentOf x (w .memory)) (lentOf y (w .rom)) (lentOf z (w .picture)) s
 
 pub run-sized : (os : List Operation) (w : World) → Sized (w .processor) → Sized (run os w .processor)
-run-sized os w s = run-keeps _ sized-in os w s
+run-sized os w s = run-known (λ os u. Sized (u .processor)) (λ o os u h. step-sized o u h) os w s
 
 pub power-up-sized : Sized powerUp
 unfolding powerUp

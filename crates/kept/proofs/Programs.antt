@@ -1,0 +1,132 @@
+-- Programs: registers written, a command executed, registers read.
+-- Assumes nothing.
+use Prim.Native.Nat.{ℕ, _+_, _<_, _≤_, _/_, _%_}
+use mathlib.Core.Path.{_≡_, refl, sym, ap, subst, _∙_}
+use mathlib.Core.Bool.{Bool, true, false, not}
+use mathlib.Core.List.{List, [], _∷_, _++_}
+use native.Mathlib.Omega.{arith}
+use lib.Dec.{eqb}
+use lib.ListN.{length, getD, set, length-set}
+use lib.Seq.{getD-set-same}
+use borrow.Author.Tests.{eq-eqb, ne-eqb}
+use Rattle.basics.specs.Choice.{pick}
+use Rattle.address.specs.Boards.{memoryBytes}
+use Rattle.address.specs.Pointers.{mainPointer, auxiliaryPointer}
+use Rattle.address.specs.Triples.{legal}
+use Rattle.address.specs.declared.triple.Triple.{Triple}
+use Rattle.command.specs.declared.Command.{Command}
+use Rattle.command.specs.declared.Command.the-variants.{Krf, Oct}
+use Rattle.command.specs.Commands.{commandOf}
+use Rattle.processor.specs.declared.state.Processor.{Processor}
+use Rattle.processor.specs.States.{chip, registerOf, registerRead, withRegister}
+use Rattle.processor.specs.Access.{Outcome, isUnlisted, isAstray, effect}
+use Rattle.processor.specs.Pointers.{pointerOf}
+use Rattle.processor.specs.Sizes.{Sized}
+use Rattle.kept.specs.Demands.{put, get, execute, krfCode, octCode, CodeRoundTrip, ByteRoundTrip}
+use Rattle.kept.specs.Orders.{firstOf, order}
+use Rattle.kept.specs.Quiet.{commandRun, Quiet}
+use Rattle.kept.specs.Runs.{own, Operation, World, first, step, run, registered, reply, Reply, replyTo, replies, accessDone, Done, done}
+use Rattle.kept.proofs.Memory.{run-long}
+use Rattle.kept.proofs.Numbers.{answered-in-order, number-first}
+use Rattle.kept.proofs.Plain.{plain-written, plain-read}
+use Rattle.kept.proofs.Ran.{isNop, command-ran}
+use Rattle.kept.proofs.Refusals.{worldWith, worlds-same}
+use Rattle.kept.proofs.Sizes.{run-sized, power-up-sized}
+
+-- runs, quiet runs and replies, one after the other
+pub run-both : (one two : List Operation) (w : World) → run (one ++ two) w ≡ run two (run one w)
+run-both [] two w = refl
+run-both (o ∷ one) two w = run-both one two (step o w)
+
+pub quiet-both : (one two : List Operation) (w : World) → Quiet one w → Quiet two (run one w) → Quiet (one ++ two) w
+quiet-both [] two w q r = r
+quiet-both (o ∷ one) two w q r = (q .0, quiet-both one two (step o w) (q .1) r)
+
+replies-both : (one two : List Operation) (w : World) → replies (one ++ two) w ≡ replies one w ++ replies two (run one w)
+replies-both [] two w = refl
+replies-both (o ∷ one) two w = ap (λ (l : List Reply). replyTo o w ∷ l) (replies-both one two (step o w))
+
+pub replies-on :
+    (o : Operation) (os : List Operation) (w u : World) (a : Reply) (l : List Reply) →
+    replyTo o w ≡ a → step o w ≡ u → replies os u ≡ l → replies (o ∷ os) w ≡ a ∷ l
+replies-on o os w u a l ea eu el =
+    ap (λ (b : Reply). b ∷ replies os (step o w)) ea ∙ ap (λ (z : World). a ∷ replies os z) eu ∙ ap (λ (z : List Reply). a ∷ z) el
+
+-- a register written or read
+abbrev pub written-in : World → ℕ → ℕ → World
+written-in w n v = record { processor = withRegister (w .processor) n v; memory = w .memory; rom = w .rom; picture = w .picture }
+
+abbrev stepped : World → Outcome → World
+stepped w o = record { processor = o .left .processor; memory = o .left .memory; rom = w .rom; picture = w .picture }
+
+abbrev said : World → Outcome → Reply
+said w o = reply (accessDone o w .number) (accessDone o w .value)
+
+low : (n : ℕ) → n < 8 → (0x20 + n) % 8 ≡ n
+low n l = omega (arith, l)
+
+module _ (w : World) (whole : length (w .memory) ≡ memoryBytes) where
+  pub put-step : (n v : ℕ) → n < 8 → step (put n v) w ≡ written-in w n v
+  put-step n v l =
+      ap (stepped w) (plain-written (0x20 + n) (w .memory) whole (omega (arith, l)) v (w .processor))
+      ∙ ap (λ (i : ℕ). written-in w i v) (low n l)
+
+  pub put-reply : (n v : ℕ) → n < 8 → replyTo (put n v) w ≡ reply 0 0
+  put-reply n v l = ap (said w) (plain-written (0x20 + n) (w .memory) whole (omega (arith, l)) v (w .processor))
+
+  pub get-step : (n : ℕ) → n < 8 → step (get n) w ≡ w
+  get-step n l = ap (stepped w) (plain-read (0x20 + n) (w .memory) whole (omega (arith, l)) (w .processor))
+
+  pub get-reply : (n : ℕ) → 1 ≤ n → n < 8 → replyTo (get n) w ≡ reply 0 (registerOf (w .processor) n)
+  unfolding registerRead
+  get-reply n a l =
+      ap (said w) (plain-read (0x20 + n) (w .memory) whole (omega (arith, l)) (w .processor))
+      ∙ ap (λ (i : ℕ). reply 0 (registerRead (w .processor) i)) (low n l)
+      ∙ rw (ne-eqb n 0 (λ e. omega (arith, a, e)))
+
+-- a command written to R0 and executed
+module _ (w : World) (whole : length (w .memory) ≡ memoryBytes) (s : Sized (w .processor)) (code : ℕ) where
+  command-there : registerOf (withRegister (w .processor) 0 code) 0 ≡ code
+  command-there = getD-set-same (w .processor .registers) 0 code 0 (rw (s .0) (omega arith))
+
+  module _ (c : Command) (is : commandOf code ≡ c) (u : isUnlisted c ≡ false) (a : isAstray c (withRegister (w .processor) 0 code) ≡ false) where
+    first-none : firstOf (order (execute code) w) ≡ 0
+    first-none = rw (eq-eqb _ _ whole, command-there, is, u, a)
+
+    pub execute-reply : replyTo (execute code) w ≡ reply 0 0
+    execute-reply = answered-in-order (execute code) w ∙ ap (λ (n : ℕ). reply n 0) first-none
+
+    pub execute-runs : commandRun (execute code) w ≡ c
+    execute-runs = rw (number-first (execute code) w ∙ first-none) (ap commandOf command-there ∙ is)
+
+    pub execute-step :
+        isNop c ≡ false →
+        let k = chip (withRegister (w .processor) 0 code) (w .memory) in
+        step (execute code) w ≡ worldWith w (effect c k .processor) (effect c k .memory) (w .picture)
+    execute-step n =
+        let ran = command-ran (execute code) w c n execute-runs in worlds-same w _ _ _ _ _ _ (ran .0) (ran .1) refl
+
+-- eight registers, one by one
+pub eight :
+    (P : List ℕ → Type 0) → ((a b c d e f g h : ℕ) → P (a ∷ b ∷ c ∷ d ∷ e ∷ f ∷ g ∷ h ∷ [])) → (l : List ℕ) → length l ≡ 8 → P l
+eight P all (a ∷ b ∷ c ∷ d ∷ e ∷ f ∷ g ∷ h ∷ []) q = all a b c d e f g h
+eight P all [] q = absurd (omega (arith, q))
+eight P all (a ∷ []) q = absurd (omega (arith, q))
+eight P all (a ∷ b ∷ []) q = absurd (omega (arith, q))
+eight P all (a ∷ b ∷ c ∷ []) q = absurd (omega (arith, q))
+eight P all (a ∷ b ∷ c ∷ d ∷ []) q = absurd (omega (arith, q))
+eight P all (a ∷ b ∷ c ∷ d ∷ e ∷ []) q = absurd (omega (arith, q))
+eight P all (a ∷ b ∷ c ∷ d ∷ e ∷ f ∷ []) q = absurd (omega (arith, q))
+eight P all (a ∷ b ∷ c ∷ d ∷ e ∷ f ∷ g ∷ []) q = absurd (omega (arith, q))
+eight P all (a ∷ b ∷ c ∷ d ∷ e ∷ f ∷ g ∷ h ∷ i ∷ l) q = absurd (omega (arith, q))
+
+-- pointers set, an operation that reads, and reads of registers after it
+pub trip-replies :
+    (pointers : List Operation) (reading : Operation) (gets : List Operation) (w u : World) (set got : List Reply) → u ≡ run pointers w →
+    replies pointers w ≡ set → replyTo reading u ≡ reply 0 0 → replies gets (step reading u) ≡ got →
+    replies (pointers ++ reading ∷ gets) w ≡ set ++ reply 0 0 ∷ got
+trip-replies pointers reading gets w u set got e es er eg =
+    replies-both pointers (reading ∷ gets) w
+    ∙ ap (λ (l : List Reply). l ++ replies (reading ∷ gets) (run pointers w)) es
+    ∙ ap (λ (v : World). set ++ replies (reading ∷ gets) v) (sym e)
+    ∙ ap (λ (l : List Reply). set ++ l) (replies-on reading gets u (step reading u) (reply 0 0) got er refl eg)

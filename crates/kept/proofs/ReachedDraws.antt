@@ -1,0 +1,210 @@
+-- Demand 1: a draw of 25 rows, and one of some and not all, is accepted after a run of operations from power-up.
+-- Assumes nothing.
+use Prim.Native.Nat.{ℕ, zero, suc, _+_, _<_, _≤_}
+use mathlib.Core.Path.{_≡_, refl, sym, ap, subst, _∙_}
+use mathlib.Core.Bool.{Bool, true, false, not, _&&_, _||_, and-true}
+use mathlib.Core.List.{List, [], _∷_}
+use mathlib.Core.Logic.{⊎-elim, inl}
+use native.Mathlib.Omega.{arith}
+use lib.Dec.{eqb}
+use lib.ListN.{length, replicate, length-replicate, set, length-set}
+use borrow.Author.Tests.{eq-eqb}
+use Rattle.basics.specs.Below.{countBelow, anyBelow}
+use Rattle.basics.specs.Choice.{oneIf}
+use Rattle.basics.specs.Parts.{joined}
+use Rattle.basics.proofs.Below.{count-at-most}
+use Rattle.basics.proofs.Choice.{lt-or-le}
+use Rattle.basics.proofs.Parts.{table-at, length-table}
+use Rattle.address.specs.Boards.{memoryBytes}
+use Rattle.address.specs.Places.{placeOf}
+use Rattle.address.specs.Rows.{rowY}
+use Rattle.address.specs.Triples.{legalIn, onPage, legalY}
+use Rattle.shown.specs.declared.Shown.{Shown}
+use Rattle.shown.specs.Lengths.{romBytes, columnBytes, pictureBytes}
+use Rattle.shown.specs.Refusals.{refused7, refused8, canDraw}
+use Rattle.page.specs.Codes.{codeOf}
+use Rattle.page.specs.Marks.{isMarked, markedRows, allMarked, noneMarked}
+use Rattle.picture.specs.Redraws.{redrawn}
+use Rattle.picture.proofs.Redrawing.{redrawn-long}
+use Rattle.reading.specs.Lists.{codePlace, codeHolds, rowHolds, cellHolds, slicesHold, hasTall, aboveHolds, onList}
+use Rattle.command.specs.declared.Command.{Command}
+use Rattle.command.specs.declared.Command.the-variants.{Ind, Oct}
+use Rattle.command.specs.Commands.{commandOf}
+use Rattle.processor.specs.declared.state.Processor.{Processor}
+use Rattle.processor.specs.States.{chip, powerUp, shownOf, withRegister, withMarks, cleared, indirectWritten}
+use Rattle.processor.specs.Bytes.{oct, stored}
+use Rattle.processor.specs.Draws.{DrawOutcome, drawnPage}
+use Rattle.processor.specs.Access.{indirect}
+use Rattle.processor.specs.Pointers.{pointerOf, incrementedIf}
+use Rattle.processor.specs.Sizes.{Sized}
+use Rattle.cell.specs.Cells.{cellOf, bichromeOf, setOf}
+use Rattle.page.specs.Halves.{isTall}
+use Rattle.kept.specs.Demands.{Reached, Gives, EachNumberReached, Redraws, DrawsReached, put, execute}
+use Rattle.kept.specs.Orders.{firstOf, order}
+use Rattle.kept.specs.Premises.{Fair, FairRun}
+use Rattle.kept.specs.Runs.{own, other, Operation, write, read, turn, draw, World, first, step, run, done, Reply, reply, replyTo}
+use Rattle.kept.proofs.Numbers.{number-first, answered-in-order}
+use Rattle.kept.proofs.Programs.{written-in, put-step, execute-step}
+use Rattle.kept.proofs.Marks.{store-marks-exact}
+use Rattle.kept.proofs.Reached.{zeros, long, picture, at-first, setting, set-up, setting-up}
+use Rattle.kept.proofs.Refusals.{worldWith}
+use Rattle.kept.proofs.Sizes.{step-sized, run-sized, power-up-sized}
+use Rattle.kept.proofs.Walk.{draw-known}
+
+-- what is shown with ROR 8: row 0 is Y 0 and row 1 is Y 8
+abbrev plainly : Shown
+plainly = record { tgs = 0; mat = 0; pat = 0; dor = 0; ror = 8; phase = 0 }
+
+-- the byte at place 0 is C of the first cell of row 0, and nothing that row 1 reads: no cell of zeros is tall or has slices in memory
+listed : onList plainly (zeros memoryBytes) 0 0 ≡ true
+unfolding zeros onList rowHolds codeHolds codePlace anyBelow placeOf rowY
+listed = refl
+
+unlisted : onList plainly (zeros memoryBytes) 0 1 ≡ false
+unfolding zeros onList rowHolds codeHolds codePlace anyBelow slicesHold cellHolds hasTall aboveHolds codeOf placeOf rowY cellOf bichromeOf setOf isTall
+unlisted = refl
+
+ror-listed : commandOf 0x87 ≡ Ind 7 false
+unfolding commandOf
+ror-listed = refl
+
+-- ROR 8, and every row marked
+abbrev shown-all : World
+shown-all = set-up 8 0x87 7
+
+all-first : firstOf (order (draw own own own) shown-all) ≡ 0
+unfolding powerUp indirectWritten refused7 refused8
+all-first = rw (long memoryBytes, long romBytes, long (pictureBytes columnBytes))
+
+all-rows : markedRows (shown-all .processor .marks) 25 ≡ 25
+unfolding powerUp indirectWritten countBelow joined
+all-rows = refl
+
+-- an accepted draw's answer, and what it leaves
+accepted-draw :
+    (w : World) → firstOf (order (draw own own own) w) ≡ 0 →
+    let p = w .processor in
+    step (draw own own own) w ≡ worldWith w (withMarks p noneMarked) (w .memory) (redrawn (p .marks) (w .picture) (w .memory) (w .rom) (shownOf p))
+unfolding drawnPage
+accepted-draw w e =
+    let p = w .processor in
+    draw-known
+    (λ (o : DrawOutcome).
+    worldWith w (o .processor) (w .memory) (o .picture)
+    ≡ worldWith w (withMarks p noneMarked) (w .memory) (redrawn (p .marks) (w .picture) (w .memory) (w .rom) (shownOf p)))
+    p (w .memory) (w .rom) (w .picture)
+    (λ a f n. absurd (n (sym f ∙ e)))
+    (λ f can. refl)
+
+draw-said : (w : World) (n : ℕ) → firstOf (order (draw own own own) w) ≡ 0 → markedRows (w .processor .marks) 25 ≡ n → replyTo (draw own own own) w ≡ reply 0 n
+draw-said w n e m = answered-in-order (draw own own own) w ∙ rw e (ap (reply 0) m)
+
+draws-all : Redraws (λ n. n ≡ 25)
+draws-all =
+    let said = subst (λ (w : World). replyTo (draw own own own) w ≡ reply 0 25) (sym (setting-up 8 0x87 7 ror-listed)) (draw-said shown-all 25 all-first all-rows) in
+    record {
+      memory = zeros memoryBytes;
+      rom = zeros romBytes;
+      picture = picture;
+      before = setting 8 0x87;
+      last = draw own own own;
+      fair = (tt, (tt, ((tt, tt, inl tt), tt)));
+      happens = (refl, ap (λ (a : Reply). a .number) said, ap (λ (a : Reply). a .value) said);
+    }
+
+-- after that draw no row is marked
+abbrev after-draw : World
+after-draw =
+    let p = shown-all .processor in
+    worldWith at-first (withMarks p noneMarked) (zeros memoryBytes) (redrawn (p .marks) picture (zeros memoryBytes) (zeros romBytes) (shownOf p))
+
+drawing-all : step (draw own own own) shown-all ≡ after-draw
+drawing-all = accepted-draw shown-all all-first
+
+-- OCT then stores R1, which is 8, at (0, 0, 0)
+abbrev after-store : World
+after-store =
+    let k = chip (withRegister (after-draw .processor) 0 0x30) (zeros memoryBytes) in
+    worldWith after-draw (oct false false false k .processor) (oct false false false k .memory) (after-draw .picture)
+
+storing : step (execute 0x30) after-draw ≡ after-store
+unfolding commandOf powerUp indirectWritten pointerOf legalIn onPage legalY
+storing =
+    execute-step after-draw (long memoryBytes) (refl, refl, length-table (λ r. false) 25) 0x30 (Oct false false false) refl refl refl refl
+
+-- then row 0 is marked, and row 1 is not
+abbrev marked : ℕ → Bool
+marked r = isMarked (after-store .processor .marks) r
+
+marked-by-list : (r : ℕ) → r < 25 → marked r ≡ onList plainly (zeros memoryBytes) 0 r
+unfolding zeros powerUp indirectWritten oct incrementedIf pointerOf placeOf canDraw refused7 refused8
+marked-by-list r l =
+    store-marks-exact (pointerOf false (after-draw .processor)) 8 (chip (cleared (withRegister (after-draw .processor) 0 0x30)) (zeros memoryBytes)) r l
+    ∙ ap (λ (b : Bool). b || onList plainly (zeros memoryBytes) 0 r) (table-at (λ s. false) 25 r false l)
+
+-- a count of some
+same : (i n : ℕ) → i < suc n → n ≤ i → i ≡ n
+same i n l h = omega (arith, l, h)
+
+one-at-most : (b : Bool) → oneIf b ≤ 1
+one-at-most true = omega arith
+one-at-most false = omega arith
+
+count-some : (f : ℕ → Bool) (n i : ℕ) → i < n → f i ≡ true → 0 < countBelow f n
+unfolding countBelow
+count-some f zero i l e = absurd (omega (arith, l))
+count-some f (suc n) i l e =
+    ⊎-elim (λ (h : i < n). omega (arith, count-some f n i h e))
+    (λ (h : n ≤ i). rw (ap f (sym (same i n l h)) ∙ e) (omega arith)) (lt-or-le i n)
+
+count-less : (f : ℕ → Bool) (n i : ℕ) → i < n → f i ≡ false → countBelow f n < n
+unfolding countBelow
+count-less f zero i l e = absurd (omega (arith, l))
+count-less f (suc n) i l e =
+    ⊎-elim (λ (h : i < n). omega (arith, count-less f n i h e, one-at-most (f n)))
+    (λ (h : n ≤ i). rw (ap f (sym (same i n l h)) ∙ e) (omega (arith, count-at-most f n))) (lt-or-le i n)
+
+-- the draw after it
+after-long : length (after-store .picture) ≡ pictureBytes columnBytes
+after-long = redrawn-long (shown-all .processor .marks) picture (zeros memoryBytes) (zeros romBytes) (shownOf (shown-all .processor)) (long (pictureBytes columnBytes))
+
+stored-memory : length (after-store .memory) ≡ memoryBytes
+unfolding oct stored
+stored-memory = length-set (zeros memoryBytes) _ _ ∙ long memoryBytes
+
+some-first : firstOf (order (draw own own own) after-store) ≡ 0
+unfolding powerUp indirectWritten oct incrementedIf stored refused7 refused8
+some-first = rw (stored-memory, long romBytes, after-long)
+
+-- the whole run
+abbrev before-some : List Operation
+before-some = put 1 8 ∷ execute 0x87 ∷ draw own own own ∷ execute 0x30 ∷ []
+
+before-some-run : run before-some at-first ≡ after-store
+before-some-run =
+    ap (run (draw own own own ∷ execute 0x30 ∷ [])) (setting-up 8 0x87 7 ror-listed) ∙ ap (step (execute 0x30)) drawing-all ∙ storing
+
+draws-some : Redraws (λ n. (0 < n) × (n < 25))
+draws-some =
+    let n = markedRows (after-store .processor .marks) 25 in
+    let said = subst (λ (w : World). replyTo (draw own own own) w ≡ reply 0 n) (sym before-some-run) (draw-said after-store n some-first refl) in
+    let rows = ap (λ (a : Reply). a .value) said in
+    record {
+      memory = zeros memoryBytes;
+      rom = zeros romBytes;
+      picture = picture;
+      before = before-some;
+      last = draw own own own;
+      fair = (tt, (tt, ((tt, tt, inl tt), (tt, ((tt, tt, inl tt), tt)))));
+      happens = (
+        refl,
+        ap (λ (a : Reply). a .number) said,
+        (
+          rw rows (count-some marked 25 0 (omega arith) (marked-by-list 0 (omega arith) ∙ listed)),
+          rw rows (count-less marked 25 1 (omega arith) (marked-by-list 1 (omega arith) ∙ unlisted)),
+        ),
+      );
+    }
+
+pub draws-reached : DrawsReached
+draws-reached = (draws-all, draws-some)

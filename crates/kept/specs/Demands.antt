@@ -1,0 +1,164 @@
+-- What is claimed: the three demands as statements, in their order. Nothing is proved here; each is the type of the theorem of that name, in
+-- small letters with hyphens, in kept/proofs. Operations, what they are lent, and runs are in Runs; the refusals and their order
+-- in Orders; the premises of demand 3 in Premises; what stores in Quiet; what marks in Rules.
+-- Assumes nothing.
+use Prim.Native.Nat.{ℕ, _+_, _*_, _<_, _≤_}
+use mathlib.Core.Path.{_≡_}
+use mathlib.Core.Bool.{Bool, true, false, not, _&&_, _||_}
+use mathlib.Core.List.{List, [], _∷_, _++_}
+use mathlib.Core.Logic.{_≢_}
+use lib.ListN.{length}
+use Rattle.basics.specs.Choice.{pick, oneIf}
+use Rattle.address.specs.Boards.{memoryBytes}
+use Rattle.address.specs.Places.{byteAt}
+use Rattle.address.specs.Pointers.{mainPointer, auxiliaryPointer}
+use Rattle.address.specs.Triples.{legal}
+use Rattle.page.specs.Marks.{isMarked}
+use Rattle.picture.specs.Redraws.{fresh}
+use Rattle.command.specs.declared.Command.the-variants.{Krf, Oct}
+use Rattle.processor.specs.declared.draw.Drawn.{Drawn}
+use Rattle.processor.specs.declared.execute.Answered.{Answered}
+use Rattle.processor.specs.Access.{Outcome, outcomeOf}
+use Rattle.processor.specs.Draws.{DrawOutcome, drawOutcomeOf}
+use Rattle.processor.specs.Pointers.{pointerOf}
+use Rattle.processor.specs.States.{shownOf, registerOf}
+use Rattle.kept.specs.Orders.{order, firstOf, returned, isLate}
+use Rattle.kept.specs.Premises.{Fair, FairRun}
+use Rattle.kept.specs.Quiet.{commandRun, Quiet}
+use Rattle.kept.specs.Rules.{marksRow, clears}
+use Rattle.kept.specs.Runs.{Lent, own, Operation, write, read, draw, World, first, step, run, done, registered, lentOf, memoryLent, pictureLent, reply, replyTo, replies}
+
+-- 1. Every register access, phase change and draw request gets an answer, for all values and buffer lengths. Bad ones are refused by number
+-- in a fixed order. Apart from a register access that had already taken place, a refusal changes nothing.
+
+-- the answer is the number of the first condition, in the order of the rules, that holds (0 where none does), with what the rules return
+abbrev pub AnsweredInOrder : Type 0
+AnsweredInOrder = (o : Operation) (w : World) → let n = firstOf (order o w) in replyTo o w ≡ reply n (returned o w n)
+
+-- after 3 or 4 the register access itself has happened, and nothing else; after the others nothing has changed: state (the marks are in it),
+-- memory, picture
+abbrev pub RefusalLeaves : Type 0
+RefusalLeaves =
+    (o : Operation) (w : World) → done o w .number ≢ 0 →
+    (done o w .processor ≡ pick (isLate (done o w .number)) (registered o w) (w .processor))
+    × (done o w .memory ≡ lentOf (memoryLent o) (w .memory))
+    × (done o w .picture ≡ lentOf (pictureLent o) (w .picture))
+
+-- some operation, after some run from power-up that keeps the premises of demand 3
+pub record Reached (Happens : Operation → World → Type 0) : Type 0 where
+  pub memory : List ℕ
+  pub rom : List ℕ
+  pub picture : List ℕ
+  pub before : List Operation
+  pub last : Operation
+  pub fair : FairRun (before ++ last ∷ []) (first memory rom picture)
+  pub happens : Happens last (run before (first memory rom picture))
+
+-- each number is given
+abbrev pub Gives : ℕ → Type 0
+Gives n = Reached (λ o w. done o w .number ≡ n)
+
+abbrev pub EachNumberReached : Type 0
+EachNumberReached = Gives 0 × Gives 1 × Gives 2 × Gives 3 × Gives 4 × Gives 5 × Gives 6 × Gives 7 × Gives 8 × Gives 9
+
+-- a draw is accepted, of all 25 rows, and of some and not all
+abbrev pub Redraws : (ℕ → Type 0) → Type 0
+Redraws Rows = Reached (λ o w. (o ≡ draw own own own) × (done o w .number ≡ 0) × Rows (done o w .value))
+
+abbrev pub DrawsReached : Type 0
+DrawsReached = Redraws (λ n. n ≡ 25) × Redraws (λ n. (0 < n) × (n < 25))
+
+-- a contract says that what is returned and what is left make the outcome of the definition: two that do so for the same input are the same
+abbrev pub OneAccess : Type 0
+OneAccess = (r s : Answered) (m n : List ℕ) (o : Outcome) → outcomeOf r m ≡ o → outcomeOf s n ≡ o → (r ≡ s) × (m ≡ n)
+
+abbrev pub OneDraw : Type 0
+OneDraw = (r s : Drawn) (v w : List ℕ) (o : DrawOutcome) → drawOutcomeOf r v ≡ o → drawOutcomeOf s w ≡ o → (r ≡ s) × (v ≡ w)
+
+-- 2. Registers, commands, addresses and each pixel are what the rules say: that is in the contracts, by the definitions of the other crates.
+-- Three code bytes written at a legal pointer, and read there before another store, are the same three.
+
+-- a value written to register n, register n read, and a command written to R0 and executed
+abbrev pub put : ℕ → ℕ → Operation
+put n v = write own (0x20 + n) v
+
+abbrev pub get : ℕ → Operation
+get n = read own (0x20 + n)
+
+abbrev pub execute : ℕ → Operation
+execute c = write own 0x28 c
+
+-- KRF 00, read 08; OCT 30, plus 4 auxiliary pointer, plus 8 read; each plus 1 with increment
+abbrev pub krfCode : Bool → Bool → ℕ
+krfCode reads increments = 8 * oneIf reads + oneIf increments
+
+abbrev pub octCode : Bool → Bool → Bool → ℕ
+octCode reads auxiliary increments = 0x30 + 8 * oneIf reads + 4 * oneIf auxiliary + oneIf increments
+
+-- after any run, C, B and A are written to R1, R2 and R3 and stored by KRF at a legal pointer; then come operations that store nothing, and
+-- the pointer is set back; KRF reads: R1, R2 and R3 are C, B and A
+abbrev pub CodeRoundTrip : Type 0
+CodeRoundTrip =
+    (m rom picture : List ℕ) (before between : List Operation) (r6 r7 c b a : ℕ) (i j : Bool) →
+    length m ≡ memoryBytes → legal (mainPointer r6 r7) ≡ true →
+    let pointer = put 6 r6 ∷ put 7 r7 ∷ [] in
+    let stored = run (pointer ++ put 1 c ∷ put 2 b ∷ put 3 a ∷ execute (krfCode false i) ∷ []) (run before (first m rom picture)) in
+    Quiet between stored →
+    replies (pointer ++ execute (krfCode true j) ∷ get 1 ∷ get 2 ∷ get 3 ∷ []) (run between stored)
+    ≡ reply 0 0 ∷ reply 0 0 ∷ reply 0 0 ∷ reply 0 c ∷ reply 0 b ∷ reply 0 a ∷ []
+
+-- one byte the same way, by OCT through either pointer
+abbrev pub ByteRoundTrip : Type 0
+ByteRoundTrip =
+    (m rom picture : List ℕ) (before between : List Operation) (r4 r5 r6 r7 v : ℕ) (auxiliary i j : Bool) →
+    length m ≡ memoryBytes → legal (pick auxiliary (auxiliaryPointer r4 r5 r6) (mainPointer r6 r7)) ≡ true →
+    let pointers = put 4 r4 ∷ put 5 r5 ∷ put 6 r6 ∷ put 7 r7 ∷ [] in
+    let stored = run (pointers ++ put 1 v ∷ execute (octCode false auxiliary i) ∷ []) (run before (first m rom picture)) in
+    Quiet between stored →
+    replies (pointers ++ execute (octCode true auxiliary j) ∷ get 1 ∷ []) (run between stored)
+    ≡ reply 0 0 ∷ reply 0 0 ∷ reply 0 0 ∷ reply 0 0 ∷ reply 0 0 ∷ reply 0 v ∷ []
+
+-- both however the commands come to be executed: o, accepted, stores by KRF or OCT what its registers then hold; q, accepted, reads at a pointer
+-- with the same X, Y and Z
+abbrev pub CodeKept : Type 0
+CodeKept =
+    (m rom picture : List ℕ) (before between : List Operation) (o q : Operation) (i j : Bool) →
+    let w = run before (first m rom picture) in
+    let u = run between (step o w) in
+    memoryLent o ≡ own → commandRun o w ≡ Krf false i → Quiet between (step o w) →
+    memoryLent q ≡ own → commandRun q u ≡ Krf true j → pointerOf false (registered q u) ≡ pointerOf false (registered o w) →
+    (n : ℕ) → 1 ≤ n → n ≤ 3 → registerOf (step q u .processor) n ≡ registerOf (registered o w) n
+
+abbrev pub ByteKept : Type 0
+ByteKept =
+    (m rom picture : List ℕ) (before between : List Operation) (o q : Operation) (x y i j : Bool) →
+    let w = run before (first m rom picture) in
+    let u = run between (step o w) in
+    memoryLent o ≡ own → commandRun o w ≡ Oct false x i → Quiet between (step o w) →
+    memoryLent q ≡ own → commandRun q u ≡ Oct true y j → pointerOf y (registered q u) ≡ pointerOf x (registered o w) →
+    registerOf (step q u .processor) 1 ≡ registerOf (registered o w) 1
+
+-- bytes 40 to 63 of each block are unused and stay as they were, over every run
+abbrev pub UnusedStay : Type 0
+UnusedStay =
+    (os : List Operation) (w : World) (z i : ℕ) → 40 ≤ i → i < 64 → byteAt (run os w .memory) (1024 * z + i) ≡ byteAt (w .memory) (1024 * z + i)
+
+-- 3. From power-up, over any sequence of accesses, phase changes and draws, the picture kept by redrawing marked rows equals, after each
+-- accepted draw, the picture drawn afresh from the present memory, registers, character ROM and phase. A row is marked exactly when the rules
+-- say so, and the reported number of redrawn rows is the number marked.
+
+-- (the premises are FairRun and Fair)
+abbrev pub DrawFresh : Type 0
+DrawFresh =
+    (m rom picture : List ℕ) (os : List Operation) (x y z : Lent) →
+    let w = run os (first m rom picture) in
+    FairRun os (first m rom picture) → Fair (draw x y z) w → done (draw x y z) w .number ≡ 0 →
+    let after = step (draw x y z) w in after .picture ≡ fresh (after .memory) (after .rom) (shownOf (after .processor))
+
+-- row r is marked after an operation exactly when it was before and no accepted draw has cleared it, or the rules mark it
+abbrev pub MarksExact : Type 0
+MarksExact =
+    (o : Operation) (w : World) (r : ℕ) → r < 25 →
+    isMarked (step o w .processor .marks) r ≡ ((isMarked (w .processor .marks) r && not (clears o w)) || marksRow o w r)
+
+-- the number of rows that a draw reports is the number marked: in AnsweredInOrder

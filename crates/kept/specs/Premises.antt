@@ -1,0 +1,35 @@
+-- The premises of demand 3: the ROM stays the same, and nobody else writes the memory or the kept picture. What a caller lends is then what is
+-- kept, or is refused for its length; and another picture may be lent while every row is marked, since all of it is drawn.
+-- Assumes nothing.
+use Prim.Native.Nat.{ℕ, _<_}
+use mathlib.Core.Path.{_≡_}
+use mathlib.Core.Bool.{true}
+use mathlib.Core.List.{List, [], _∷_}
+use mathlib.Core.Logic.{_≢_, _⊎_}
+use lib.ListN.{length}
+use Rattle.address.specs.Boards.{memoryBytes}
+use Rattle.shown.specs.Lengths.{romBytes, columnBytes, pictureBytes}
+use Rattle.page.specs.Marks.{isMarked}
+use Rattle.kept.specs.Runs.{Lent, own, other, Operation, write, read, turn, draw, World, step}
+
+-- the kept buffer, or a list that is not n bytes long
+abbrev pub OwnOrWrong : ℕ → Lent → Type 0
+OwnOrWrong n own = Unit {0}
+OwnOrWrong n (other b) = length b ≢ n
+
+abbrev pub EveryRowMarked : World → Type 0
+EveryRowMarked w = (r : ℕ) → r < 25 → isMarked (w .processor .marks) r ≡ true
+
+abbrev pub FairPicture : Lent → World → Type 0
+FairPicture z w = OwnOrWrong (pictureBytes columnBytes) z ⊎ EveryRowMarked w
+
+abbrev pub Fair : Operation → World → Type 0
+Fair (write x address v) w = OwnOrWrong memoryBytes x
+Fair (read x address) w = OwnOrWrong memoryBytes x
+Fair (turn x n) w = OwnOrWrong memoryBytes x
+Fair (draw x y z) w = OwnOrWrong memoryBytes x × OwnOrWrong romBytes y × FairPicture z w
+
+-- each operation of a run
+abbrev pub FairRun : List Operation → World → Type 0
+FairRun [] w = Unit {0}
+FairRun (o ∷ os) w = Fair o w × FairRun os (step o w)
