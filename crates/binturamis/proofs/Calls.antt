@@ -2,6 +2,7 @@
 -- Assumes nothing.
 use Prim.Native.Nat.{ℕ}
 use mathlib.Core.Path.{_≡_, ap, _∙_}
+use mathlib.Core.Bool.{Bool}
 use mathlib.Core.List.{List}
 use Rattle.processor.specs.declared.state.Processor.{Processor}
 use Rattle.processor.specs.declared.execute.Answered.{Answered}
@@ -11,20 +12,22 @@ use Rattle.processor.specs.States.{Chip, chip}
 use Rattle.processor.specs.Access.{Outcome, outcomeOf}
 use Rattle.processor.specs.Draws.{drawOutcomeOf, drawn}
 use Rattle.packing.specs.Layouts.{packed, unpacked}
-use Rattle.binturamis.specs.Calls.{word, called, callOf, drawCalled, drawCallOf}
+use Rattle.binturamis.specs.Calls.{word, isRefusal, bytesAfter, called, callOf, drawCalled, drawCallOf}
 
--- of an access or a phase change
+-- of an access or a phase change, which has changed nothing with the numbers that pass
 pub call-made :
-    (operation : Chip → Outcome) (bytes m : List ℕ) (p : Processor) (r : Answered) (after b : List ℕ) (w : ℕ)
-    → p ≡ unpacked bytes → outcomeOf r after ≡ operation (chip p m) → b ≡ packed (r .processor) → w ≡ word (numberOf (r .answer)) (valueOf (r .answer))
-    → called b after w ≡ callOf (operation (chip (unpacked bytes) m))
-call-made operation bytes m p r after b w ep er eb ew =
-    rw (eb, ew) (ap callOf er ∙ ap (λ (q : Processor). callOf (operation (chip q m))) ep)
+    (unchanged : ℕ → Bool) (operation : Chip → Outcome) (bytes m : List ℕ) (p : Processor) (r : Answered) (after b : List ℕ) (w : ℕ)
+    → p ≡ unpacked bytes → outcomeOf r after ≡ operation (chip p m)
+    → b ≡ bytesAfter (unchanged (numberOf (r .answer))) bytes (r .processor) → w ≡ word (numberOf (r .answer)) (valueOf (r .answer))
+    → called b after w ≡ callOf unchanged bytes (operation (chip (unpacked bytes) m))
+call-made unchanged operation bytes m p r after b w ep er eb ew =
+    rw (eb, ew) (ap (callOf unchanged bytes) er ∙ ap (λ (q : Processor). callOf unchanged bytes (operation (chip q m))) ep)
 
 -- of a draw
 pub draw-made :
     (bytes m rom picture : List ℕ) (p : Processor) (r : Drawn) (after b : List ℕ) (w : ℕ)
-    → p ≡ unpacked bytes → drawOutcomeOf r after ≡ drawn p m rom picture → b ≡ packed (r .processor) → w ≡ word (drawNumberOf (r .answer)) (rowsOf (r .answer))
-    → drawCalled b after w ≡ drawCallOf (drawn (unpacked bytes) m rom picture)
+    → p ≡ unpacked bytes → drawOutcomeOf r after ≡ drawn p m rom picture
+    → b ≡ bytesAfter (isRefusal (drawNumberOf (r .answer))) bytes (r .processor) → w ≡ word (drawNumberOf (r .answer)) (rowsOf (r .answer))
+    → drawCalled b after w ≡ drawCallOf bytes (drawn (unpacked bytes) m rom picture)
 draw-made bytes m rom picture p r after b w ep er eb ew =
-    rw (eb, ew) (ap drawCallOf er ∙ ap (λ (q : Processor). drawCallOf (drawn q m rom picture)) ep)
+    rw (eb, ew) (ap (drawCallOf bytes) er ∙ ap (λ (q : Processor). drawCallOf bytes (drawn q m rom picture)) ep)

@@ -1,6 +1,6 @@
 pub mod Accesses
 pub mod Calls
+pub mod Leaving
 pub mod Rows
-pub mod Sizes
 pub mod Runs
 pub mod Refusals

@@ -1,62 +1,33 @@
--- A refusal that changes nothing leaves 64 bytes that hold a processor, and the memory or the picture, exactly as they were.
+-- A refused call leaves what it was lent, and the 64 bytes, whatever they hold.
 -- Assumes nothing.
 use Prim.Native.Nat.{ℕ}
-use mathlib.Core.Path.{_≡_, ap, _∙_}
-use mathlib.Core.List.{List}
+use mathlib.Core.Path.{_≡_, refl, ap, sym, _∙_}
+use mathlib.Core.Bool.{Bool, true, false, not, false≢true}
 use mathlib.Core.Logic.{_≢_}
-use Rattle.processor.specs.declared.state.Processor.{Processor}
-use Rattle.command.specs.Answers.{numberOf, drawNumberOf}
-use Rattle.processor.specs.States.{chip}
-use Rattle.processor.specs.Access.{Outcome, written, readOut, turned}
-use Rattle.processor.specs.Draws.{drawn}
-use Rattle.kept.proofs.Refusals.{write-leaves, read-leaves, turn-leaves, draw-leaves}
-use Rattle.packing.specs.Layouts.{packed, unpacked, Sized}
-use Rattle.binturamis.specs.Calls.{callOf, drawCallOf}
-use Rattle.packing.proofs.RoundTrip.{unpacked-packed}
+use native.Mathlib.Omega.{arith}
+use lib.Dec.{eqb}
+use Rattle.packing.specs.Layouts.{unpacked}
+use Rattle.kept.specs.Orders.{isEarly}
+use Rattle.kept.specs.Runs.{Operation, write, read, turn, draw, World}
+use Rattle.kept.proofs.Refusals.{refusal-leaves}
+use Rattle.binturamis.specs.Calls.{isRefusal}
+use Rattle.binturamis.specs.Promises.{RefusedCall}
+use Rattle.binturamis.specs.Runs.{Caller, calledBy}
 
-module _ (p : Processor) (s : Sized p) where
-  abbrev Kept-by : List ℕ → Outcome → Type 0
-  Kept-by m o = (callOf o .bytes ≡ packed p) × (callOf o .memory ≡ m)
+-- a number that leaves things alone is not 0
+pub early-refuses : (n : ℕ) → isEarly n ≡ true → n ≢ 0
+early-refuses n e z = false≢true (sym (ap isEarly z) ∙ e)
 
-  same : (m : List ℕ) (o : Outcome) → o .left ≡ chip (unpacked (packed p)) m → Kept-by m o
-  same m o e = (ap (λ k. packed (k .processor)) e ∙ ap packed (unpacked-packed p s), ap (λ k. k .memory) e)
+pub refusal-refuses : (n : ℕ) → isRefusal n ≡ true → n ≢ 0
+refusal-refuses n e z = false≢true (sym (ap isRefusal z) ∙ e)
 
-  -- 1 and 2 of a write; 3 and 4 come after the register is written
-  pub write-refused :
-      (address v : ℕ) (m : List ℕ)
-      → let o = written address v (chip (unpacked (packed p)) m) in
-      (numberOf (o .answer) ≡ 1 → Kept-by m o) × (numberOf (o .answer) ≡ 2 → Kept-by m o)
-  write-refused address v m =
-      let k = chip (unpacked (packed p)) m in
-      let l = write-leaves address v k in
-      ((λ e. same m (written address v k) (l .0 e)), (λ e. same m (written address v k) (l .1 e)))
+-- the world of a caller, whatever its bytes
+abbrev worldOf : Caller → World
+worldOf b = record { processor = unpacked (b .bytes); memory = b .memory; rom = b .rom; picture = b .picture }
 
-  -- 1 to 4 of a read
-  pub read-refused :
-      (address : ℕ) (m : List ℕ)
-      → let o = readOut address (chip (unpacked (packed p)) m) in
-      (numberOf (o .answer) ≡ 1 → Kept-by m o) × (numberOf (o .answer) ≡ 2 → Kept-by m o)
-      × (numberOf (o .answer) ≡ 3 → Kept-by m o) × (numberOf (o .answer) ≡ 4 → Kept-by m o)
-  read-refused address m =
-      let k = chip (unpacked (packed p)) m in
-      let l = read-leaves address k in
-      let o = readOut address k in
-      ((λ e. same m o (l .0 e)), (λ e. same m o (l .1 e)), (λ e. same m o (l .2 e)), (λ e. same m o (l .3 e)))
-
-  -- 1 and 9 of a phase change
-  pub turn-refused :
-      (n : ℕ) (m : List ℕ)
-      → let o = turned n (chip (unpacked (packed p)) m) in (numberOf (o .answer) ≡ 1 → Kept-by m o) × (numberOf (o .answer) ≡ 9 → Kept-by m o)
-  turn-refused n m =
-      let k = chip (unpacked (packed p)) m in
-      let l = turn-leaves n k in
-      ((λ e. same m (turned n k) (l .0 e)), (λ e. same m (turned n k) (l .1 e)))
-
-  -- any of a draw
-  pub draw-refused :
-      (m rom picture : List ℕ)
-      → let o = drawn (unpacked (packed p)) m rom picture in
-      drawNumberOf (o .answer) ≢ 0 → (drawCallOf o .bytes ≡ packed p) × (drawCallOf o .picture ≡ picture)
-  draw-refused m rom picture n =
-      let l = draw-leaves (unpacked (packed p)) m rom picture n in
-      (ap packed (l .0 ∙ unpacked-packed p s), l .1)
+pub refused-call : RefusedCall
+refused-call (write x address v) b e =
+    let l = refusal-leaves (write x address v) (worldOf b) (early-refuses _ e) in (rw e, l .1, l .2)
+refused-call (read x address) b e = let l = refusal-leaves (read x address) (worldOf b) (refusal-refuses _ e) in (rw e, l .1, l .2)
+refused-call (turn x n) b e = let l = refusal-leaves (turn x n) (worldOf b) (refusal-refuses _ e) in (rw e, l .1, l .2)
+refused-call (draw x y z) b e = let l = refusal-leaves (draw x y z) (worldOf b) (refusal-refuses _ e) in (rw e, l .1, l .2)

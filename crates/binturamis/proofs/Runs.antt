@@ -1,32 +1,77 @@
--- Calls in a row from power-up leave the memory and the picture of the same run of operations, and 64 bytes that hold its processor: so
--- what is proved of every run holds of the calls.
+-- Calls in a row from power-up leave the memory and the picture of the same run of operations, and 64 bytes that hold its processor; and
+-- they answer what it answers: so what is proved of every run holds of the calls.
 -- Assumes nothing.
 use Prim.Native.Nat.{ℕ}
-use mathlib.Core.Path.{_≡_, refl, ap, _∙_}
+use mathlib.Core.Path.{_≡_, refl, sym, ap, _∙_}
+use mathlib.Core.Bool.{Bool, true, false}
 use mathlib.Core.List.{List, [], _∷_}
-use Rattle.kept.specs.Runs.{Operation, write, read, turn, draw, World, first, step, run}
-use Rattle.packing.specs.Layouts.{unpacked, Sized}
-use Rattle.binturamis.specs.Runs.{callerOf, call, calls}
+use mathlib.Core.Logic.{⊎-elim}
+use lib.Dec.{eqb}
+use borrow.Author.Tests.{eqb-true}
+use Rattle.basics.specs.Choice.{pick}
+use Rattle.basics.proofs.Choice.{or-cases}
+use Rattle.processor.specs.declared.state.Processor.{Processor}
+use Rattle.processor.specs.Sizes.{Sized}
+use Rattle.kept.specs.Orders.{isEarly, isLate}
+use Rattle.kept.specs.Runs.{Operation, write, read, turn, draw, World, first, step, run, done, registered}
+use Rattle.kept.proofs.Refusals.{refusal-leaves}
+use Rattle.kept.proofs.Walk.{pick-same}
+use Rattle.kept.proofs.Sizes.{step-sized, run-sized, power-up-sized}
+use Rattle.packing.specs.Layouts.{packed, unpacked}
 use Rattle.packing.proofs.RoundTrip.{unpacked-packed}
-use Rattle.binturamis.proofs.Sizes.{step-sized, run-sized, power-up-sized}
+use Rattle.binturamis.specs.Calls.{word, isRefusal, bytesAfter}
+use Rattle.binturamis.specs.Promises.{CallsRun, CallsHold, CallsAnswer, leavesAlone}
+use Rattle.binturamis.specs.Runs.{Caller, CallDone, callerOf, calledBy, call, calls}
+use Rattle.binturamis.proofs.Refusals.{early-refuses, refusal-refuses}
+
+-- bytes that are left alone hold the processor that the operation left
+alone : (unchanged : Bool) (p q : Processor) → (unchanged ≡ true → q ≡ p) → bytesAfter unchanged (packed p) q ≡ packed q
+alone true p q e = ap packed (sym (e refl))
+alone false p q e = refl
+
+-- 1 and 2 are not 3 or 4
+early-not-late : (n : ℕ) (p q : Processor) → isEarly n ≡ true → pick (isLate n) p q ≡ q
+early-not-late n p q e =
+    ⊎-elim (λ o. rw (eqb-true n 1 o)) (λ t. rw (eqb-true n 2 t)) (or-cases (eqb n 1) (eqb n 2) e)
+
+-- where a call leaves them alone, the operation left the processor as it was
+stays : (o : Operation) (w : World) → leavesAlone o (done o w .number) ≡ true → done o w .processor ≡ w .processor
+stays (write x address v) w e =
+    let n = done (write x address v) w .number in
+    refusal-leaves (write x address v) w (early-refuses n e) .0 ∙ early-not-late n (registered (write x address v) w) (w .processor) e
+stays (read x address) w e = refusal-leaves (read x address) w (refusal-refuses _ e) .0 ∙ pick-same (isLate (done (read x address) w .number)) (w .processor)
+stays (turn x n) w e = refusal-leaves (turn x n) w (refusal-refuses _ e) .0 ∙ pick-same (isLate (done (turn x n) w .number)) (w .processor)
+stays (draw x y z) w e = refusal-leaves (draw x y z) w (refusal-refuses _ e) .0 ∙ pick-same (isLate (done (draw x y z) w .number)) (w .processor)
 
 -- one call on a processor that is packed is the operation on it
-pub call-step : (o : Operation) (w : World) → Sized (w .processor) → call o (callerOf w) ≡ callerOf (step o w)
-call-step (write address v) w s = rw (unpacked-packed (w .processor) s)
-call-step (read address) w s = rw (unpacked-packed (w .processor) s)
-call-step (turn n) w s = rw (unpacked-packed (w .processor) s)
-call-step draw w s = rw (unpacked-packed (w .processor) s)
+abbrev doneBy : Operation → World → CallDone
+doneBy o w =
+    let d = done o w in
+    record { bytes = packed (d .processor); memory = d .memory; picture = d .picture; number = d .number; answer = word (d .number) (d .value) }
+
+call-done : (o : Operation) (w : World) → Sized (w .processor) → calledBy o (callerOf w) ≡ doneBy o w
+call-done (write x address v) w s = rw (unpacked-packed (w .processor) s, alone (isEarly (done (write x address v) w .number)) (w .processor) _ (stays (write x address v) w))
+call-done (read x address) w s = rw (unpacked-packed (w .processor) s, alone (isRefusal (done (read x address) w .number)) (w .processor) _ (stays (read x address) w))
+call-done (turn x n) w s = rw (unpacked-packed (w .processor) s, alone (isRefusal (done (turn x n) w .number)) (w .processor) _ (stays (turn x n) w))
+call-done (draw x y z) w s = rw (unpacked-packed (w .processor) s, alone (isRefusal (done (draw x y z) w .number)) (w .processor) _ (stays (draw x y z) w))
+
+call-step : (o : Operation) (w : World) → Sized (w .processor) → call o (callerOf w) ≡ callerOf (step o w)
+call-step o w s = rw (call-done o w s)
 
 calls-from : (os : List Operation) (w : World) → Sized (w .processor) → calls os (callerOf w) ≡ callerOf (run os w)
 calls-from [] w s = refl
 calls-from (o ∷ os) w s = ap (calls os) (call-step o w s) ∙ calls-from os (step o w) (step-sized o w s)
 
--- the same from power-up, with any memory, ROM and picture; and what the bytes then mean
-module _ (os : List Operation) (m rom picture : List ℕ) where
-  pub calls-run : calls os (callerOf (first m rom picture)) ≡ callerOf (run os (first m rom picture))
-  calls-run = calls-from os (first m rom picture) power-up-sized
+-- from power-up
+pub calls-run : CallsRun
+calls-run os m rom picture = calls-from os (first m rom picture) power-up-sized
 
-  pub calls-hold : unpacked (calls os (callerOf (first m rom picture)) .bytes) ≡ run os (first m rom picture) .processor
-  calls-hold =
-      ap (λ b. unpacked (b .bytes)) calls-run
-      ∙ unpacked-packed (run os (first m rom picture) .processor) (run-sized os (first m rom picture) power-up-sized)
+pub calls-hold : CallsHold
+calls-hold os m rom picture =
+    ap (λ (b : Caller). unpacked (b .bytes)) (calls-run os m rom picture)
+    ∙ unpacked-packed (run os (first m rom picture) .processor) (run-sized os (first m rom picture) power-up-sized)
+
+pub calls-answer : CallsAnswer
+calls-answer os o m rom picture =
+    ap (λ (b : Caller). calledBy o b .answer) (calls-run os m rom picture)
+    ∙ ap (λ (d : CallDone). d .answer) (call-done o (run os (first m rom picture)) (run-sized os (first m rom picture) power-up-sized))

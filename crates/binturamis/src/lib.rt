@@ -1,12 +1,14 @@
 // The C interface: the processor's operations on 64 bytes that the caller keeps. Each unpacks the bytes, does the operation and packs
-// what it leaves, so that any 64 bytes get an answer; those of a power-up or of an earlier call mean the processor that it left.
+// what it leaves, so that any 64 bytes get an answer; those of a power-up or of an earlier call mean the processor that it left. Where
+// a refusal has changed nothing, nothing is written.
 ghost use mathlib.Core.Path.{_≡_};
 ghost use Rattle.processor.specs.States.{chip, powerUp};
 ghost use Rattle.processor.specs.Access.{written, readOut, turned};
 ghost use Rattle.processor.specs.Draws.{drawn};
 ghost use Rattle.packing.specs.Layouts.{packed, unpacked};
 ghost use Rattle.packing.specs.Reports.{reported};
-ghost use Rattle.binturamis.specs.Calls.{called, callOf, drawCalled, drawCallOf};
+ghost use Rattle.kept.specs.Orders.{isEarly};
+ghost use Rattle.binturamis.specs.Calls.{isRefusal, called, callOf, drawCalled, drawCallOf};
 
 mod access;
 mod leave;
@@ -15,6 +17,7 @@ mod word;
 use access::is_plain;
 use leave::leave;
 use leave::leave_drawn;
+use leave::leave_written;
 use packing::layout::packed;
 use packing::layout::unpacked;
 use packing::report::reported;
@@ -36,7 +39,7 @@ pub extern "C" fn binturamis_write(
     address: u8,
     value: u8,
 ) -> u32
-    ensures { λ r. ⌜ called (now (p .exit)) (now (memory .exit)) r ≡ callOf (written address value (chip (unpacked (now (p .entry))) (now (memory .entry)))) ⌝ }
+    ensures { λ r. ⌜ called (now (p .exit)) (now (memory .exit)) r ≡ callOf isEarly (now (p .entry)) (written address value (chip (unpacked (now (p .entry))) (now (memory .entry)))) ⌝ }
 {
     if is_plain(memory.len(), address) {
         let n = (address % 8) as usize;
@@ -45,13 +48,13 @@ pub extern "C" fn binturamis_write(
         return 0;
     }
     let answered = unpacked(*p).write(memory, address, value);
-    leave(p, answered)
+    leave_written(p, answered)
 }
 
 // A register is read; then the command runs, if the address asks for it, and may store.
 #[no_mangle]
 pub extern "C" fn binturamis_read(p: &mut [u8; 64], memory: &mut [u8], address: u8) -> u32
-    ensures { λ r. ⌜ called (now (p .exit)) (now (memory .exit)) r ≡ callOf (readOut address (chip (unpacked (now (p .entry))) (now (memory .entry)))) ⌝ }
+    ensures { λ r. ⌜ called (now (p .exit)) (now (memory .exit)) r ≡ callOf isRefusal (now (p .entry)) (readOut address (chip (unpacked (now (p .entry))) (now (memory .entry)))) ⌝ }
 {
     let before = unpacked(*p);
     if is_plain(memory.len(), address) {
@@ -65,7 +68,7 @@ pub extern "C" fn binturamis_read(p: &mut [u8; 64], memory: &mut [u8], address: 
 // The phase change.
 #[no_mangle]
 pub extern "C" fn binturamis_turn(p: &mut [u8; 64], memory: &[u8], phase: u8) -> u32
-    ensures { λ r. ⌜ called (now (p .exit)) (now (memory .entry)) r ≡ callOf (turned phase (chip (unpacked (now (p .entry))) (now (memory .entry)))) ⌝ }
+    ensures { λ r. ⌜ called (now (p .exit)) (now (memory .entry)) r ≡ callOf isRefusal (now (p .entry)) (turned phase (chip (unpacked (now (p .entry))) (now (memory .entry)))) ⌝ }
 {
     let answered = unpacked(*p).turn(memory, phase);
     leave(p, answered)
@@ -79,7 +82,7 @@ pub extern "C" fn binturamis_draw(
     rom: &[u8],
     picture: &mut [u8],
 ) -> u32
-    ensures { λ r. ⌜ drawCalled (now (p .exit)) (now (picture .exit)) r ≡ drawCallOf (drawn (unpacked (now (p .entry))) (now (memory .entry)) (now (rom .entry)) (now (picture .entry))) ⌝ }
+    ensures { λ r. ⌜ drawCalled (now (p .exit)) (now (picture .exit)) r ≡ drawCallOf (now (p .entry)) (drawn (unpacked (now (p .entry))) (now (memory .entry)) (now (rom .entry)) (now (picture .entry))) ⌝ }
 {
     let drawn = unpacked(*p).draw(memory, rom, picture);
     leave_drawn(p, drawn)

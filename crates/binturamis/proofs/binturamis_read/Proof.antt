@@ -1,4 +1,5 @@
 use Rattle.processor.specs.Access.{readOut}
+use Rattle.binturamis.specs.Calls.{isRefusal}
 use Rattle.binturamis.proofs.Calls.{call-made}
 use Rattle.binturamis.proofs.Accesses.{plain-read-made}
 use borrow.Author.Needs.{needs}
@@ -41,7 +42,7 @@ returns-2 : tie.Need-returns-2
 returns-2 c = let w = c .before .before .before .before in
     let u = w .before .before .before .before in
     let a = u .before .before .before .args in
-    call-made (readOut (a .address)) (a .p .now) (a .memory .now) _ (w .read .result) (w .read .last .1 .0) _ _
+    call-made isRefusal (readOut (a .address)) (a .p .now) (a .memory .now) _ (w .read .result) (w .read .last .1 .0) _ _
     (u .unpacked .ensures) (w .read .ensures) (c .leave .ensures .0) (c .leave .ensures .1)
 
 pub binturamis-read-spec : {M : Type 1} → statement M

@@ -1,4 +1,5 @@
 use Rattle.processor.specs.Access.{turned}
+use Rattle.binturamis.specs.Calls.{isRefusal}
 use Rattle.binturamis.proofs.Calls.{call-made}
 use borrow.Author.Needs.{needs}
 use Rattle.binturamis.proofs.binturamis_turn.Statement.{statement}
@@ -17,7 +18,7 @@ returns : tie.Need-returns
 returns c = let w = c .before .before in
     let u = w .before in
     let a = u .before .before .before .args in
-    call-made (turned (a .phase)) (a .p .now) (a .memory .now) _ (w .turn .result) (a .memory .now) _ _
+    call-made isRefusal (turned (a .phase)) (a .p .now) (a .memory .now) _ (w .turn .result) (a .memory .now) _ _
     (u .unpacked .ensures) (w .turn .ensures) (c .leave .ensures .0) (c .leave .ensures .1)
 
 pub binturamis-turn-spec : {M : Type 1} → statement M

@@ -1,4 +1,5 @@
 use Rattle.processor.specs.Access.{written}
+use Rattle.kept.specs.Orders.{isEarly}
 use Rattle.binturamis.proofs.Calls.{call-made}
 use Rattle.binturamis.proofs.Accesses.{plain-write-made}
 use borrow.Author.Needs.{needs}
@@ -34,8 +35,8 @@ unpacked-requires-2 c κs = search needs
 write-requires : tie.Need-write-requires
 write-requires c κs = search needs
 
-leave-requires : tie.Need-leave-requires
-leave-requires c κs = search needs
+leave-written-requires : tie.Need-leave-written-requires
+leave-written-requires c κs = search needs
 
 same-length : tie.Need-same-length
 same-length c = search needs
@@ -44,8 +45,8 @@ returns-2 : tie.Need-returns-2
 returns-2 c = let w = c .before .before .before .before in
     let u = w .before .before in
     let a = u .before .before .before .before .before .args in
-    call-made (written (a .address) (a .value)) (a .p .now) (a .memory .now) _ (w .write .result) (w .write .last .1 .0) _ _
-    (u .unpacked2 .ensures) (w .write .ensures) (c .leave .ensures .0) (c .leave .ensures .1)
+    call-made isEarly (written (a .address) (a .value)) (a .p .now) (a .memory .now) _ (w .write .result) (w .write .last .1 .0) _ _
+    (u .unpacked2 .ensures) (w .write .ensures) (c .leave-written .ensures .0) (c .leave-written .ensures .1)
 
 pub binturamis-write-spec : {M : Type 1} → statement M
 binturamis-write-spec =
@@ -59,6 +60,6 @@ binturamis-write-spec =
     returns
     unpacked-requires-2
     write-requires
-    leave-requires
+    leave-written-requires
     same-length
     returns-2)

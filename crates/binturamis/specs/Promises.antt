@@ -1,0 +1,46 @@
+-- What is claimed of the calls, beside the contract of each: they are the operations of the three demands (kept/specs/Demands), so that all that
+-- is said there holds of them. Nothing is proved here; each is the type of the theorem of that name, in small letters with hyphens.
+-- Assumes nothing.
+use Prim.Native.Nat.{ℕ}
+use mathlib.Core.Path.{_≡_}
+use mathlib.Core.Bool.{Bool, true}
+use mathlib.Core.List.{List}
+use mathlib.Core.Logic.{_≢_}
+use Rattle.kept.specs.Orders.{isEarly}
+use Rattle.kept.specs.Runs.{Operation, write, read, turn, draw, first, run, done, lentOf, memoryLent, pictureLent}
+use Rattle.packing.specs.Layouts.{unpacked}
+use Rattle.binturamis.specs.Calls.{word, isRefusal}
+use Rattle.binturamis.specs.Runs.{Caller, callerOf, calledBy, calls}
+
+-- calls from power-up leave the memory and the picture of the same run of operations, and its processor packed
+abbrev pub CallsRun : Type 0
+CallsRun =
+    (os : List Operation) (m rom picture : List ℕ) → calls os (callerOf (first m rom picture)) ≡ callerOf (run os (first m rom picture))
+
+-- the 64 bytes mean that processor
+abbrev pub CallsHold : Type 0
+CallsHold =
+    (os : List Operation) (m rom picture : List ℕ) →
+    unpacked (calls os (callerOf (first m rom picture)) .bytes) ≡ run os (first m rom picture) .processor
+
+-- and each call answers the number and the value of its operation
+abbrev pub CallsAnswer : Type 0
+CallsAnswer =
+    (os : List Operation) (o : Operation) (m rom picture : List ℕ) →
+    let d = done o (run os (first m rom picture)) in
+    calledBy o (calls os (callerOf (first m rom picture))) .answer ≡ word (d .number) (d .value)
+
+-- the numbers with which a call has changed nothing: of a write 1 and 2, since its register is written before 3 and 4; of the others all
+abbrev pub leavesAlone : Operation → ℕ → Bool
+leavesAlone (write x address v) n = isEarly n
+leavesAlone (read x address) n = isRefusal n
+leavesAlone (turn x phase) n = isRefusal n
+leavesAlone (draw x y z) n = isRefusal n
+
+-- such a call leaves the 64 bytes alone, whatever they hold, and the memory and the picture that it was lent
+abbrev pub RefusedCall : Type 0
+RefusedCall =
+    (o : Operation) (b : Caller) → leavesAlone o (calledBy o b .number) ≡ true →
+    (calledBy o b .bytes ≡ b .bytes)
+    × (calledBy o b .memory ≡ lentOf (memoryLent o) (b .memory))
+    × (calledBy o b .picture ≡ lentOf (pictureLent o) (b .picture))
