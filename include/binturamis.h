@@ -57,7 +57,8 @@
 /*
  * Refusals. An access (write, read) is checked in the order 1, 2, 3, 4; a phase change in the order 1, 9; a draw in the order 1, 5, 6, 7,
  * 8. The first that applies is answered. After 3 and 4 the register access itself has happened, and nothing else: a refused read still
- * answers the value read. After every other refusal nothing at all has changed, and the value is 0.
+ * answers the value read. After every other refusal nothing at all has changed, and the value is 0. Where nothing has changed (1, 2, 5 to
+ * 9, and 3 and 4 of a read, which writes no register) no byte of the processor is written either, whatever it holds.
  */
 #define BINTURAMIS_ACCEPTED 0u
 #define BINTURAMIS_WRONG_MEMORY 1u  /* private memory is not 16,384 bytes */
@@ -138,7 +139,8 @@ extern "C" {
 /*
  * A processor: the registers, the marks and the phase. Its bytes are the library's; begin with binturamis_power_up, and copy it freely,
  * together with the memory and the picture that it belongs to. Bytes that no call has left mean the state that binturamis_state tells of
- * them, and get the answers of that state; a call, also a refused one, then leaves bytes of its own for the state after it.
+ * them, and get the answers of that state; an accepted call then leaves bytes of its own for the state after it. A refusal after which
+ * nothing has changed writes no byte of the processor.
  */
 typedef struct {
     uint8_t bytes[64];

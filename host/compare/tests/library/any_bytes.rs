@@ -95,6 +95,8 @@ struct Met {
     /// Rows redrawn in all, and those in such a phase.
     rows: usize,
     rows_above_1: usize,
+    /// Refusals that left alone bytes which no call leaves.
+    left_alone: usize,
 }
 
 impl Met {
@@ -125,6 +127,37 @@ fn assert_once_more(
     assert!(before.picture == after.picture, "{told}: another picture");
 }
 
+/// "After the others nothing has changed": with refusals 1, 2 and 5 to 9, and with 3 and 4 of a
+/// read, which changes no register by itself.
+fn leaves_alone(asked: Asked, number: u8) -> bool {
+    match asked.operation {
+        Operation::Write { .. } => number == 1 || number == 2,
+        _ => number != 0,
+    }
+}
+
+/// The 64 bytes after an operation: those from before, if nothing has changed, and else those of the
+/// state after it. Whether bytes were left alone that no call leaves.
+fn look_at_bytes(
+    told: &str,
+    asked: Asked,
+    report: &Report,
+    before: &Processor,
+    after: &Processor,
+) -> bool {
+    let mut packed = report.packed();
+    // The three indirect registers that no command names stay.
+    for r in [0, 5, 6] {
+        packed[8 + r] = before.bytes()[8 + r];
+    }
+    if leaves_alone(asked, report.number) {
+        assert_eq!(after.bytes(), before.bytes(), "{told}: bytes written");
+        return packed != *before.bytes();
+    }
+    assert_eq!(*after.bytes(), packed, "{told}: the bytes");
+    false
+}
+
 /// A few operations one after the other, from any bytes.
 fn compare_one(seed: u64, met: &mut Met) {
     let mut random = Random::new(seed);
@@ -135,6 +168,8 @@ fn compare_one(seed: u64, met: &mut Met) {
         let mut before = pair.library.clone();
         let report = pair.apply(asked);
         let told = format!("seed {seed}, {asked:?}");
+        let (was, is) = (&before.processor, &pair.library.processor);
+        met.left_alone += usize::from(look_at_bytes(&told, asked, &report, was, is));
         assert_once_more(&told, &mut before, asked, &report, &pair.library);
         met.look(asked, &report);
     }
@@ -151,4 +186,5 @@ fn every_operation_has_one_outcome_and_it_is_the_second_programs() {
     assert!(rare >= 30, "a number that is rare: {met:?}");
     assert!(met.phases_above_1 > 1_000 && met.both_lx > 1_000, "{met:?}");
     assert!(met.rows > 1_000 && met.rows_above_1 > 1_000, "{met:?}");
+    assert!(met.left_alone > 1_000, "{met:?}");
 }
