@@ -155,7 +155,7 @@ module _ (p : Processor) (m rom picture : List ℕ) (f : Fresh p m rom picture) 
 
 -- every row marked: any picture will do
 marked-any : (w : World) → EveryRowMarked w → (picture : List ℕ) → Fresh (w .processor) (w .memory) (w .rom) picture
-marked-any w all picture r l e = absurd (false≢true (sym e ∙ all r l))
+marked-any w all picture r l e = absurd (false≢true (sym e ∙ all r (omega (arith, l))))
 
 -- what is lent with a wrong length is refused, and then nothing has changed
 wrong-access : (o : Operation) (w : World) → firstOf (order o w) ≡ 1 → step o w ≡ w

@@ -15,7 +15,7 @@ use Rattle.processor.specs.declared.state.Processor.{Processor}
 use Rattle.processor.specs.States.{registerOf, withRegister}
 use Rattle.processor.specs.Pointers.{pointerOf}
 use Rattle.processor.specs.Sizes.{Sized}
-use Rattle.kept.specs.Demands.{put, get, execute, krfCode, CodeRoundTrip}
+use Rattle.kept.specs.Demands.{put, get, execute, krfCode, codeReplies, CodeRoundTrip}
 use Rattle.kept.specs.Quiet.{commandRun, Quiet}
 use Rattle.kept.specs.Runs.{Operation, World, first, step, run, registered, reply, replyTo, replies}
 use Rattle.kept.proofs.Memory.{run-long}
@@ -160,7 +160,7 @@ module _
         (quiet-both between (pointer r6 r7) (step storing ready) quiet (refl, (refl, tt))) refl read-now (meant-there ∙ sym (meant .0)) n l h
         ∙ e)
 
-    got-three : replies (get 1 ∷ get 2 ∷ get 3 ∷ []) end ≡ reply 0 c ∷ reply 0 b ∷ reply 0 a ∷ []
+    got-three : replies (get 1 ∷ get 2 ∷ get 3 ∷ []) end ≡ codeReplies c b a
     got-three =
         replies-on (get 1) (get 2 ∷ get 3 ∷ []) end end _ _ (got 1 c (omega arith) (omega arith) (meant .1)) (get-step end end-whole 1 (omega arith))
         (replies-on (get 2) (get 3 ∷ []) end end _ _ (got 2 b (omega arith) (omega arith) (meant .2)) (get-step end end-whole 2 (omega arith))
@@ -168,7 +168,7 @@ module _
 
     trip :
         replies (pointer r6 r7 ++ reading ∷ get 1 ∷ get 2 ∷ get 3 ∷ []) then
-        ≡ reply 0 0 ∷ reply 0 0 ∷ reply 0 0 ∷ reply 0 c ∷ reply 0 b ∷ reply 0 a ∷ []
+        ≡ reply 0 0 ∷ reply 0 0 ∷ reply 0 0 ∷ codeReplies c b a
     trip =
         trip-replies (pointer r6 r7) reading (get 1 ∷ get 2 ∷ get 3 ∷ []) then there _ _ there-then
         (pointer-replies r6 r7 then then-whole then-sized) read-reply got-three

@@ -14,7 +14,6 @@ use Rattle.address.specs.declared.triple.Triple.{Triple}
 use Rattle.page.specs.Marks.{isMarked, markedToo, allMarked}
 use Rattle.reading.specs.Lists.{onList}
 use Rattle.reading.specs.Marks.{storeMarks, flashIn, phaseMarks}
-use Rattle.shown.specs.Refusals.{canDraw}
 use Rattle.processor.specs.declared.state.Processor.{Processor}
 use Rattle.processor.specs.States.{Chip, chip, registerOf, indirectWritten, withPhase, withRegister, cleared, shownOf}
 use Rattle.command.specs.declared.Command.{Command}
@@ -26,6 +25,7 @@ use Rattle.processor.specs.Bytes.{stored, oct, codeStored, krf}
 use Rattle.processor.specs.Access.{written, readOut, phased}
 use Rattle.processor.specs.Draws.{drawnPage}
 use Rattle.kept.specs.Quiet.{isStore, isMarker}
+use Rattle.kept.specs.Rules.{isShown, storeRule, indirectRule, phaseRule}
 use Rattle.kept.proofs.Walk.{KeptBy, asked-keeps, effect-keeps, write-keeps, read-keeps}
 
 too :
@@ -39,22 +39,18 @@ all :
 all true marks r l = table-at (λ s. true) 25 r false l ∙ sym (or-true (isMarked marks r))
 all false marks r l = sym (or-false (isMarked marks r))
 
--- a store: a draw would get neither 7 nor 8, the byte changes, and the row's list, taken just before, holds it
+-- a store
 pub store-marks-exact :
     (t : Triple) (v : ℕ) (k : Chip) (r : ℕ) → r < 25 →
-    let p = k .processor in
-    isMarked (stored t v k .processor .marks) r
-    ≡ (isMarked (p .marks) r
-    || ((canDraw (shownOf p) && not (eqb (loaded t (k .memory)) v)) && onList (shownOf p) (k .memory) (placeAt t) r))
+    isMarked (stored t v k .processor .marks) r ≡ (isMarked (k .processor .marks) r || storeRule t v k r)
 unfolding stored storeMarks
 store-marks-exact t v k r l =
     let p = k .processor in
-    too (canDraw (shownOf p) && not (eqb (loaded t (k .memory)) v)) (onList (shownOf p) (k .memory) (placeAt t)) (p .marks) r l
+    too (isShown p && not (eqb (loaded t (k .memory)) v)) (onList (shownOf p) (k .memory) (placeAt t)) (p .marks) r l
 
--- IND: a changed value in any register but MAT
+-- IND
 pub indirect-marks-exact :
-    (p : Processor) (n r : ℕ) → r < 25 →
-    isMarked (indirectWritten p n .marks) r ≡ (isMarked (p .marks) r || (not (eqb (getD (p .indirect) n 0) (registerOf p 1)) && not (eqb n 2)))
+    (p : Processor) (n r : ℕ) → r < 25 → isMarked (indirectWritten p n .marks) r ≡ (isMarked (p .marks) r || indirectRule n p)
 unfolding indirectWritten
 indirect-marks-exact p n r l = all (not (eqb (getD (p .indirect) n 0) (registerOf p 1)) && not (eqb n 2)) (p .marks) r l
 
@@ -65,16 +61,12 @@ turns :
 turns true can f n k r l = sym (or-false (isMarked (k .processor .marks) r))
 turns false can f n k r l = too can f (k .processor .marks) r l
 
--- a phase change: the phase changes, a draw would get neither 7 nor 8, and the row has a bichrome cell whose A3 is set
+-- a phase change
 pub phase-marks-exact :
-    (n : ℕ) (k : Chip) (r : ℕ) → r < 25 →
-    let p = k .processor in
-    isMarked (phased n k .processor .marks) r
-    ≡ (isMarked (p .marks) r || (not (eqb (p .phase) n) && (canDraw (shownOf p) && flashIn (shownOf p) (k .memory) r)))
+    (n : ℕ) (k : Chip) (r : ℕ) → r < 25 → isMarked (phased n k .processor .marks) r ≡ (isMarked (k .processor .marks) r || phaseRule n k r)
 unfolding phased phaseMarks
 phase-marks-exact n k r l =
-    let p = k .processor in
-    turns (eqb (p .phase) n) (canDraw (shownOf p)) (flashIn (shownOf p) (k .memory)) n k r l
+    let p = k .processor in turns (eqb (p .phase) n) (isShown p) (flashIn (shownOf p) (k .memory)) n k r l
 
 -- an accepted draw clears them
 pub draw-marks-exact :

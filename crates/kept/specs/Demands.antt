@@ -26,7 +26,7 @@ use Rattle.kept.specs.Orders.{order, firstOf, returned, isLate}
 use Rattle.kept.specs.Premises.{Fair, FairRun}
 use Rattle.kept.specs.Quiet.{commandRun, Quiet}
 use Rattle.kept.specs.Rules.{marksRow, clears}
-use Rattle.kept.specs.Runs.{Lent, own, Operation, write, read, draw, World, first, step, run, done, registered, lentOf, memoryLent, pictureLent, reply, replyTo, replies}
+use Rattle.kept.specs.Runs.{Lent, own, Operation, write, read, draw, World, first, step, run, done, registered, lentOf, memoryLent, pictureLent, Reply, reply, replyTo, replies}
 
 -- 1. Every register access, phase change and draw request gets an answer, for all values and buffer lengths. Bad ones are refused by number
 -- in a fixed order. Apart from a register access that had already taken place, a refusal changes nothing.
@@ -95,6 +95,10 @@ krfCode reads increments = 8 * oneIf reads + oneIf increments
 abbrev pub octCode : Bool → Bool → Bool → ℕ
 octCode reads auxiliary increments = 0x30 + 8 * oneIf reads + 4 * oneIf auxiliary + oneIf increments
 
+-- R1, R2 and R3 read: C, B and A
+abbrev pub codeReplies : ℕ → ℕ → ℕ → List Reply
+codeReplies c b a = reply 0 c ∷ reply 0 b ∷ reply 0 a ∷ []
+
 -- after any run, C, B and A are written to R1, R2 and R3 and stored by KRF at a legal pointer; then come operations that store nothing, and
 -- the pointer is set back; KRF reads: R1, R2 and R3 are C, B and A
 abbrev pub CodeRoundTrip : Type 0
@@ -105,7 +109,7 @@ CodeRoundTrip =
     let stored = run (pointer ++ put 1 c ∷ put 2 b ∷ put 3 a ∷ execute (krfCode false i) ∷ []) (run before (first m rom picture)) in
     Quiet between stored →
     replies (pointer ++ execute (krfCode true j) ∷ get 1 ∷ get 2 ∷ get 3 ∷ []) (run between stored)
-    ≡ reply 0 0 ∷ reply 0 0 ∷ reply 0 0 ∷ reply 0 c ∷ reply 0 b ∷ reply 0 a ∷ []
+    ≡ reply 0 0 ∷ reply 0 0 ∷ reply 0 0 ∷ codeReplies c b a
 
 -- one byte the same way, by OCT through either pointer
 abbrev pub ByteRoundTrip : Type 0
