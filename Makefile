@@ -1,5 +1,5 @@
 # Plain `make` prints the targets: each has its line behind `##`.
-.PHONY: help demo test library install bench check panel rom format kit clean
+.PHONY: help demo test library install bench check facts panel rom format kit clean
 
 help: ## these lines
 	@awk -F ':.*## ' '/^[a-z]+:.*## / { printf "make %-8s %s\n", $$1, $$2 }' Makefile
@@ -45,6 +45,9 @@ bench: target/library/libbinturamis.a ## what calls of the library cost, in inst
 check: ## the proofs alone, over what has changed, and every program run
 	@$(NAMED_KIT)
 	rt check
+
+facts: ## what each must-fail edit contradicts, once they were tried; fails where that is no fact
+	@.ci/facts
 
 panel: target/bin/panel ## the program `panel` on the example of the rules
 	@cd host && cargo run --quiet --release --offline -p panel <../crates/panel/stdin
