@@ -8,7 +8,7 @@ mul-result : tie.Need-mul-result
 mul-result c = search needs
 
 returns : tie.Need-returns
-returns c = block-bits _ (omega arith)
+returns c = omega (arith, block-bits (c .before .args .self .ror) (omega arith))
 
 pub first-block-spec : {M : Type 1} → statement M
 first-block-spec = tie.close (tie.spec mul-result returns)
