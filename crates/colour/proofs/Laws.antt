@@ -16,8 +16,8 @@ use Rattle.colour.specs.Colours.{colourOf, nibbleOf}
 use Rattle.colour.specs.Ranks.{rankOf, hasRank, colourOfRank}
 
 -- the colour of a number is the one that its low three bits name
-pub named : (n k : ℕ) → n % 8 ≡ k → _≡_ {A = Colour} (record { 0 = k }) (colourOf n)
-named n k e = rw e
+pub named : (n k : ℕ) → n % 8 ≡ k → colourOf k ≡ colourOf n
+named n k e = let same : k % 8 ≡ n % 8 = omega arith in rw same
 
 -- 1 << k at eight bits
 pub bit-at : (k : ℕ) → k < 8 → 1 * 2 ^ k % 256 ≡ 2 ^ k
@@ -38,10 +38,14 @@ module _ (a r : ℕ) (colour : Colour) where
   unfolding hasRank
   rank-has-not h = rw h
 
--- the colour of a colour's rank is that colour: the rank names it and no other
-pub of-its-rank : (a k : ℕ) → a < 256 → k < 8 → pick (isSet k a) (nibbleOf (colourOfRank a (rankOf a (colourOf k)))) k ≡ k
+-- the colour of a colour's rank is that colour, where the palette has it: the rank names it and no other
+abbrev again : ℕ → ℕ → ℕ
+again a k = nibbleOf (colourOfRank a (rankOf a (colourOf k)))
+
+pub of-its-rank :
+    (a k : ℕ) → a < 256 → k < 8 → pick (isSet (nibbleOf (colourOf k)) a) (again a k) (nibbleOf (colourOf k)) ≡ nibbleOf (colourOf k)
 unfolding colourOfRank lastBelow hasRank rankOf countBelow
-of-its-rank = agree2 (λ a k. pick (isSet k a) (nibbleOf (colourOfRank a (rankOf a (colourOf k)))) k) (λ a k. k) 256 8 tt
+of-its-rank = agree2 (λ a k. pick (isSet (nibbleOf (colourOf k)) a) (again a k) (nibbleOf (colourOf k))) (λ a k. nibbleOf (colourOf k)) 256 8 tt
 
 -- a turn of the search for a rank, from what the code learnt of colour k
 module _ (a r k : ℕ) (colour : Colour) (b : Bool) (is : colour ≡ colourOf k) (learnt : b ≡ hasRank a r colour) (so-far : ℕ) where

@@ -1,38 +1,39 @@
 -- Colours are the eight colours by name, and two pixels are packed in a byte.
 -- Assumes nothing.
 use Prim.Native.Nat.{ℕ, _+_, _*_, _%_}
-use mathlib.Core.List.{List}
+use mathlib.Core.List.{List, [], _∷_}
+use lib.ListN.{getD}
 use Rattle.basics.specs.Parts.{table}
 use Rattle.colour.specs.declared.Colour.{Colour}
 
--- the colour of a number; only its low three bits count
-abbrev pub colourOf : ℕ → Colour
-colourOf n = record { 0 = n % 8 }
-
 -- 0 black, 1 red, 2 green, 3 yellow, 4 blue, 5 magenta, 6 cyan, 7 white
 abbrev pub black : Colour
-black = colourOf 0
+black = record { 0 = 0 }
 
 abbrev pub red : Colour
-red = colourOf 1
+red = record { 0 = 1 }
 
 abbrev pub green : Colour
-green = colourOf 2
+green = record { 0 = 2 }
 
 abbrev pub yellow : Colour
-yellow = colourOf 3
+yellow = record { 0 = 3 }
 
 abbrev pub blue : Colour
-blue = colourOf 4
+blue = record { 0 = 4 }
 
 abbrev pub magenta : Colour
-magenta = colourOf 5
+magenta = record { 0 = 5 }
 
 abbrev pub cyan : Colour
-cyan = colourOf 6
+cyan = record { 0 = 6 }
 
 abbrev pub white : Colour
-white = colourOf 7
+white = record { 0 = 7 }
+
+-- the colour of a number, by its name; only the number's low three bits count
+abbrev pub colourOf : ℕ → Colour
+colourOf n = getD (black ∷ red ∷ green ∷ yellow ∷ blue ∷ magenta ∷ cyan ∷ white ∷ []) (n % 8) black
 
 -- the four bits that stand for a colour
 abbrev pub nibbleOf : Colour → ℕ

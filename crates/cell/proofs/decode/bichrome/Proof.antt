@@ -1,4 +1,5 @@
 use Rattle.cell.proofs.Codes.{bichrome-parts}
+use Prim.Native.Nat.{_/_}
 use mathlib.Core.Path.{refl}
 use native.Mathlib.Omega.{arith}
 use borrow.Author.Needs.{needs}
@@ -22,7 +23,7 @@ returns c = let q = c in
     let p = c .before in
     let u = p .before in
     let s = u .before in
-    bichrome-parts _ (s .before .args .b) (s .before .args .a) _ _ _ (s .set-of .ensures) (u .is-underlined .ensures) refl refl refl refl (p .from-number .ensures) refl
+    bichrome-parts _ (s .before .args .b) (s .before .args .a) _ (s .before .args .a / 16) (s .before .args .a) (s .set-of .ensures) (u .is-underlined .ensures) refl refl refl refl (p .from-number .ensures) refl
     (q .from-number2 .ensures) (omega arith) (omega arith) (omega arith)
 
 pub bichrome-spec : {M : Type 1} → statement M

@@ -1,7 +1,7 @@
 use Rattle.colour.proofs.Laws.{bit-at, ones-below}
 use Rattle.colour.specs.Ranks.{rankOf}
 use lib.Pow.{pow-pos}
-use mathlib.Core.Path.{_∙_}
+use mathlib.Core.Path.{refl, _∙_}
 use native.Mathlib.Omega.{arith}
 use borrow.Author.Needs.{needs}
 use Rattle.colour.proofs.palette.rank.Statement.{statement}
@@ -18,7 +18,7 @@ rem-result c = rw (bit-at (c .nibble .result) (omega arith)) (pow-pos (c .nibble
 
 returns : tie.Need-returns
 unfolding rankOf
-returns c = rw (bit-at (c .nibble .result) (omega arith)) (ones-below (c .before .args .palette) (c .nibble .result) (c .before .fits .palette .fits) (omega arith) ∙ rw (c .nibble .ensures))
+returns c = rw (bit-at (c .nibble .result) (omega arith)) (ones-below (c .before .args .palette) (c .nibble .result) (c .before .fits .palette .fits) (omega arith) ∙ rw (c .nibble .ensures) refl)
 
 pub rank-spec : {M : Type 1} → statement M
 rank-spec = tie.close (tie.spec nibble-requires shl-result rem-result returns)
