@@ -1,4 +1,5 @@
 pub mod Codes
+pub mod Attributes
 pub mod Heights
 pub mod Bytes
 pub mod Drawn

@@ -1,15 +1,14 @@
 use Rattle.cell.specs.Pixels.{concealed}
-use borrow.Author.Tests.{eq-eqb, ne-eqb}
+use Rattle.cell.proofs.Attributes.{conceal-hides, conceal-off}
+use native.Mathlib.Omega.{arith}
 use Rattle.cell.proofs.pairs.conceal.Statement.{statement}
 use Rattle.cell.proofs.pairs.conceal.Tie as tie
 
 returns : tie.Need-returns
-unfolding concealed
-returns c = rw (c .before .before .if1 .taken, eq-eqb _ _ (c .if2 .taken))
+returns c = conceal-hides _ _ _ (c .before .before .if1 .taken) (omega arith)
 
 returns-2 : tie.Need-returns-2
-unfolding concealed
-returns-2 c = rw (c .before .before .if1 .taken, ne-eqb _ _ (c .if2 .left))
+returns-2 c = conceal-off _ _ _ (c .before .before .if1 .taken) (λ h. omega arith)
 
 returns-3 : tie.Need-returns-3
 unfolding concealed

@@ -1,3 +1,4 @@
+use mathlib.Core.Path.{refl}
 use borrow.Author.Needs.{needs}
 use Rattle.cell.proofs.pairs.dye.Statement.{statement}
 use Rattle.cell.proofs.pairs.dye.Tie as tie
@@ -15,7 +16,7 @@ ink-requires : tie.Need-ink-requires
 ink-requires c κs = search needs
 
 returns : tie.Need-returns
-returns c = rw (c .ink .ensures, c .before .invert .ensures, c .before .before .flash .ensures, c .before .before .before .conceal .ensures)
+returns c = rw (c .ink .ensures, c .before .invert .ensures, c .before .before .flash .ensures, c .before .before .before .conceal .ensures) refl
 
 pub dye-spec : {M : Type 1} → statement M
 dye-spec =

@@ -1,5 +1,6 @@
 use Rattle.cell.specs.Pixels.{flashed}
-use borrow.Author.Tests.{eq-eqb, ne-eqb}
+use Rattle.cell.proofs.Attributes.{flash-hides, flash-shows, flash-off}
+use native.Mathlib.Omega.{arith}
 use borrow.Author.Needs.{needs}
 use Rattle.cell.proofs.pairs.flash.Statement.{statement}
 use Rattle.cell.proofs.pairs.flash.Tie as tie
@@ -8,16 +9,15 @@ differs-requires : tie.Need-differs-requires
 differs-requires c κs = search needs
 
 returns : tie.Need-returns
-unfolding flashed
-returns c = rw (c .before .before .before .before .if1 .taken, eq-eqb _ _ (c .before .before .if2 .taken), ← c .before .differs .ensures, c .if3 .taken)
+returns c = let given = c .before .before .before .before .before .args in
+    flash-hides (given .cell) (given .shown) (given .bit) _ (c .before .differs .ensures) (c .before .before .before .before .if1 .taken) (omega arith) (c .if3 .taken)
 
 returns-2 : tie.Need-returns-2
-unfolding flashed
-returns-2 c = rw (c .before .before .before .before .if1 .taken, eq-eqb _ _ (c .before .before .if2 .taken), ← c .before .differs .ensures, c .if3 .left)
+returns-2 c = let given = c .before .before .before .before .before .args in
+    flash-shows (given .cell) (given .shown) (given .bit) _ (c .before .differs .ensures) (c .before .before .before .before .if1 .taken) (omega arith) (c .if3 .left)
 
 returns-3 : tie.Need-returns-3
-unfolding flashed
-returns-3 c = rw (c .before .before .if1 .taken, ne-eqb _ _ (c .if2 .left))
+returns-3 c = flash-off _ _ _ (c .before .before .if1 .taken) (λ h. omega arith)
 
 returns-4 : tie.Need-returns-4
 unfolding flashed

@@ -1,10 +1,11 @@
 use Rattle.cell.specs.Pixels.{inverted}
+use mathlib.Core.Path.{refl}
 use Rattle.cell.proofs.pairs.invert.Statement.{statement}
 use Rattle.cell.proofs.pairs.invert.Tie as tie
 
 returns : tie.Need-returns
 unfolding inverted
-returns c = rw (c .if1 .taken)
+returns c = rw (c .if1 .taken) refl
 
 returns-2 : tie.Need-returns-2
 unfolding inverted
