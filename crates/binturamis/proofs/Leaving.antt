@@ -1,16 +1,17 @@
--- Bytes that are left alone, or written with the processor packed. The number is the answer's, and the test is of it.
+-- Bytes that are left alone by a refusal, or written with the processor packed. (The number is the answer's.)
 -- Assumes nothing.
 use Prim.Native.Nat.{ℕ}
-use mathlib.Core.Path.{_≡_, sym, ap, _∙_}
-use mathlib.Core.Bool.{Bool, true, false}
+use mathlib.Core.Path.{_≡_, sym, _∙_}
 use mathlib.Core.List.{List}
+use mathlib.Core.Logic.{_≢_}
+use borrow.Author.Tests.{eq-eqb, ne-eqb}
 use Rattle.processor.specs.declared.state.Processor.{Processor}
 use Rattle.packing.specs.Layouts.{packed}
-use Rattle.binturamis.specs.Calls.{bytesAfter}
+use Rattle.binturamis.specs.Calls.{isRefusal, bytesAfter}
 
-module _ (unchanged : ℕ → Bool) (n number : ℕ) (is : number ≡ n) (before : List ℕ) (p : Processor) where
-  pub left-alone : unchanged number ≡ true → before ≡ bytesAfter (unchanged n) before p
-  left-alone e = rw (ap unchanged (sym is) ∙ e)
+module _ (n number : ℕ) (is : number ≡ n) (before : List ℕ) (p : Processor) where
+  pub left-alone : number ≢ 0 → before ≡ bytesAfter (isRefusal n) before p
+  left-alone refused = rw (ne-eqb n 0 (λ e. refused (is ∙ e)))
 
-  pub left-packed : (after : List ℕ) → unchanged number ≡ false → after ≡ packed p → after ≡ bytesAfter (unchanged n) before p
-  left-packed after e w = rw (ap unchanged (sym is) ∙ e) w
+  pub left-packed : (after : List ℕ) → number ≡ 0 → after ≡ packed p → after ≡ bytesAfter (isRefusal n) before p
+  left-packed after accepted w = rw (eq-eqb n 0 (sym is ∙ accepted)) w

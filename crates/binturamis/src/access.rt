@@ -1,10 +1,14 @@
-// Accesses that only a register takes part in. They are told apart because the call that runs commands hands the whole state over and
-// back, which costs more than all the rest of such an access.
+// Accesses that are told apart before the call that runs commands, which hands the whole state over and back: those that only a register
+// takes part in, since handing the state over would cost more than all the rest of them, and those refused before they take place, since
+// they leave the state alone.
 ghost use mathlib.Core.Path.{_≡_};
 ghost use mathlib.Core.Bool.{_&&_};
 ghost use Prim.Native.Nat.{_/_};
 ghost use lib.Dec.{eqb};
+ghost use Rattle.basics.specs.Bits.{bits};
+ghost use Rattle.basics.specs.Choice.{pick};
 ghost use Rattle.address.specs.Boards.{memoryBytes};
+ghost use Rattle.binturamis.specs.Calls.{word};
 use address::board::MEMORY_BYTES;
 
 // 4 times 8 is 2 in the address's high four bits with bit 3, which asks for execution, clear.
@@ -15,4 +19,17 @@ pub fn is_plain(memory: usize, address: u8) -> bool
         return address / 8 == 4;
     }
     false
+}
+
+// The answer of an access that is refused by 1 or 2; 0 for any other.
+pub fn early(memory: usize, address: u8) -> u32
+    ensures { λ r. ⌜ r ≡ pick (eqb memory memoryBytes) (pick (eqb (bits 4 4 address) 2) 0 (word 2 0)) (word 1 0) ⌝ }
+{
+    if memory != MEMORY_BYTES {
+        return 65536;
+    }
+    if address / 16 != 2 {
+        return 131072;
+    }
+    0
 }

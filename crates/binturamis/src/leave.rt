@@ -2,35 +2,21 @@
 ghost use mathlib.Core.Path.{_≡_};
 ghost use Prim.Native.Nat.{_≤_};
 ghost use Rattle.command.specs.Answers.{numberOf, valueOf, drawNumberOf, rowsOf};
-ghost use Rattle.kept.specs.Orders.{isEarly};
+ghost use Rattle.packing.specs.Layouts.{packed};
 ghost use Rattle.binturamis.specs.Calls.{word, isRefusal, bytesAfter};
 use crate::word::draw_word;
 use crate::word::word;
-use command::answer::Answer;
 use packing::layout::packed;
 use processor::draw::Drawn;
 use processor::execute::Answered;
 
-// The numbers of a write that come before its register is written.
-pub fn is_early(number: u8) -> bool
-    ensures { λ r. ⌜ r ≡ isEarly number ⌝ }
-{
-    if number == 1 {
-        return true;
-    }
-    number == 2
-}
-
-// Of a write.
+// Of a write that has taken place, whether or not its command was refused.
 pub fn leave_written(p: &mut [u8; 64], answered: Answered) -> u32
-    ensures { λ r. ⌜ (now (p .exit) ≡ bytesAfter (isEarly (numberOf (answered .answer))) (now (p .entry)) (answered .processor)) × (r ≡ word (numberOf (answered .answer)) (valueOf (answered .answer))) ⌝ }
+    ensures { λ r. ⌜ (now (p .exit) ≡ packed (answered .processor)) × (r ≡ word (numberOf (answered .answer)) (valueOf (answered .answer))) ⌝ }
 {
-    let next = answered.processor;
+    let written = answered.processor;
     let answer = answered.answer;
-    if is_early(answer.number()) {
-        return word(answer);
-    }
-    *p = packed(next);
+    *p = packed(written);
     word(answer)
 }
 

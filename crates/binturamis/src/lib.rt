@@ -14,6 +14,7 @@ mod access;
 mod leave;
 mod word;
 
+use access::early;
 use access::is_plain;
 use leave::leave;
 use leave::leave_drawn;
@@ -46,6 +47,10 @@ pub extern "C" fn binturamis_write(
         p[n] = value;
         *p = packed(unpacked(*p));
         return 0;
+    }
+    let refused = early(memory.len(), address);
+    if refused != 0 {
+        return refused;
     }
     let answered = unpacked(*p).write(memory, address, value);
     leave_written(p, answered)

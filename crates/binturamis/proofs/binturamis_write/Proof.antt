@@ -1,7 +1,4 @@
-use Rattle.processor.specs.Access.{written}
-use Rattle.kept.specs.Orders.{isEarly}
-use Rattle.binturamis.proofs.Calls.{call-made}
-use Rattle.binturamis.proofs.Accesses.{plain-write-made}
+use Rattle.binturamis.proofs.Accesses.{plain-write-made, early-made, late-made}
 use borrow.Author.Needs.{needs}
 use Rattle.binturamis.proofs.binturamis_write.Statement.{statement}
 use Rattle.binturamis.proofs.binturamis_write.Tie as tie
@@ -29,6 +26,14 @@ returns c = let u = c .before in
     plain-write-made (a .address) (a .memory .now) (i .is-plain .result) (i .is-plain .ensures) (t .if1 .taken) (a .value) (a .p .now) _ _
     (u .unpacked .ensures) (c .packed .ensures .0)
 
+early-requires : tie.Need-early-requires
+early-requires c κs = search needs
+
+returns-2 : tie.Need-returns-2
+returns-2 c = let e = c .before in
+    let a = e .before .before .before .before .args in
+    early-made (a .address) (a .value) (a .memory .now) (a .p .now) _ (e .early .ensures) (c .if2 .taken)
+
 unpacked-requires-2 : tie.Need-unpacked-requires-2
 unpacked-requires-2 c κs = search needs
 
@@ -41,12 +46,14 @@ leave-written-requires c κs = search needs
 same-length : tie.Need-same-length
 same-length c = search needs
 
-returns-2 : tie.Need-returns-2
-returns-2 c = let w = c .before .before .before .before in
+returns-3 : tie.Need-returns-3
+returns-3 c = let w = c .before .before .before .before in
     let u = w .before .before in
-    let a = u .before .before .before .before .before .args in
-    call-made isEarly (written (a .address) (a .value)) (a .p .now) (a .memory .now) _ (w .write .result) (w .write .last .1 .0) _ _
-    (u .unpacked2 .ensures) (w .write .ensures) (c .leave-written .ensures .0) (c .leave-written .ensures .1)
+    let t = u .before .before in
+    let e = t .before in
+    let a = e .before .before .before .before .args in
+    late-made (a .address) (a .value) (a .memory .now) (a .p .now) _ (e .early .ensures) _ (w .write .result) (w .write .last .1 .0) _ _
+    (t .if2 .left) (u .unpacked2 .ensures) (w .write .ensures) (c .leave-written .ensures .0) (c .leave-written .ensures .1)
 
 pub binturamis-write-spec : {M : Type 1} → statement M
 binturamis-write-spec =
@@ -58,8 +65,10 @@ binturamis-write-spec =
     unpacked-requires
     packed-requires
     returns
+    early-requires
+    returns-2
     unpacked-requires-2
     write-requires
     leave-written-requires
     same-length
-    returns-2)
+    returns-3)
