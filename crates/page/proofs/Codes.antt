@@ -3,13 +3,13 @@
 use Prim.Native.Nat.{ℕ, _<_, _≤_}
 use mathlib.Core.Path.{_≡_, _∙_}
 use mathlib.Core.Bool.{false, not, _&&_}
-use mathlib.Core.List.{List}
+use mathlib.Core.List.{List, [], _∷_}
 use native.Mathlib.Omega.{arith}
 use borrow.Author.Tests.{le-leb, lt-leb}
 use Rattle.basics.specs.Bits.{isSet}
 use Rattle.basics.specs.Parts.{table}
 use Rattle.address.specs.Boards.{bytesOf}
-use Rattle.address.specs.Places.{placeOf, blockOf}
+use Rattle.address.specs.Places.{placeOf, blockOf, byteAt}
 use Rattle.address.proofs.Places.{place-fits}
 use Rattle.cell.specs.Cells.{isQuadrichrome}
 use Rattle.cell.proofs.Codes.{top-two}
@@ -21,6 +21,14 @@ use Rattle.page.specs.Codes.{codeOf, rowBuffer}
 -- on a board of n blocks
 pub code-fits : (n x y z i p b : ℕ) → p ≡ placeOf x y b → b ≡ blockOf z i → x < 40 → y < 32 → blockOf z i < n → p < bytesOf n
 code-fits n x y z i p b e f hx hy hz = rw (e, f) (place-fits n x y (blockOf z i) hx hy hz)
+
+-- the three bytes, at the places that the code has
+pub code-listed :
+    (m : List ℕ) (x y z c b a : ℕ)
+    → c ≡ placeOf x y (blockOf z 0) → b ≡ placeOf x y (blockOf z 1) → a ≡ placeOf x y (blockOf z 2)
+    → _≡_ {A = List ℕ} (byteAt m c ∷ byteAt m b ∷ byteAt m a ∷ []) (codeOf m z y x)
+unfolding codeOf
+code-listed m x y z c b a e f g = rw (e, f, g)
 
 -- an attribute of a bichrome cell, by its bit of B
 module _ (b k : ℕ) where

@@ -66,7 +66,7 @@ tall-turn here above x w on ew eo = eo ∙ ap (λ (t : Bool). goesOn t (getD her
 -- the three ways of a row's lower halves
 module _ (shown : Shown) (m : List ℕ) (r : ℕ) where
   pub lower-service : r ≡ 0 → table (λ x. false) 40 ≡ lowerHalves shown m r
-  lower-service e = table-same _ _ 40 (λ x l. rw e (sym (first-half isTall (λ i. codeAt shown m i x))))
+  lower-service e = table-same _ _ 40 (λ x l. rw e (sym (first-half isTall _)))
 
   module _
       (low : r ≡ 0 → ⊥) (here above : List (List ℕ)) (is-here : here ≡ rowBuffer shown m r) (is-above : above ≡ rowBuffer shown m (r - 1))

@@ -1,6 +1,7 @@
 use Rattle.address.specs.Boards.{boardBlocks}
-use Rattle.page.proofs.Codes.{code-fits}
-use Rattle.page.specs.Codes.{codeOf}
+use Rattle.address.specs.Places.{placeOf}
+use Rattle.page.proofs.Codes.{code-fits, code-listed}
+use mathlib.Core.Path.{ap, _∙_}
 use native.Mathlib.Omega.{arith}
 use borrow.Author.Needs.{needs}
 use Rattle.page.proofs.code.code_at.Statement.{statement}
@@ -46,11 +47,15 @@ shared-slice-read-t15 c = let p = c .before .before .before in
     omega (arith, code-fits boardBlocks _ _ _ _ _ _ (p .place-at3 .ensures) (p .before .block3 .ensures) (omega arith) (omega arith) (omega arith))
 
 returns : tie.Need-returns
-unfolding codeOf
 returns c = let p3 = c .before .before .before in
     let p2 = p3 .before .before in
     let p1 = p2 .before .before in
-    rw (p1 .place-at .ensures, p1 .before .block .ensures, p2 .place-at2 .ensures, p2 .before .block2 .ensures, p3 .place-at3 .ensures, p3 .before .block3 .ensures)
+    let g = p1 .before .before .before .args in
+    let at = placeOf (g .x) (g .y) in
+    code-listed (g .memory .now) (g .x) (g .y) (g .z) _ _ _
+    (p1 .place-at .ensures ∙ ap at (p1 .before .block .ensures))
+    (p2 .place-at2 .ensures ∙ ap at (p2 .before .block2 .ensures))
+    (p3 .place-at3 .ensures ∙ ap at (p3 .before .block3 .ensures))
 
 pub code-at-spec : {M : Type 1} → statement M
 code-at-spec =

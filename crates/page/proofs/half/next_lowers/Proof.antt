@@ -1,5 +1,5 @@
 use lib.ListN.{getD}
-use mathlib.Core.Bool.{Bool, not, _&&_}
+use mathlib.Core.Bool.{Bool, false, not, _&&_}
 use Rattle.page.proofs.Halves.{tall-turn}
 use Rattle.page.specs.HowHalves.{nextLowerAt}
 use Rattle.basics.proofs.Filled.{table-set, table-end}
@@ -66,7 +66,7 @@ loop-again c = let w = c .before .before .before in
       omega arith,
       simp length-set (l .inv .1),
       table-set _ _ _ _ (l .inv .2)
-          (ap (λ (b : Bool). b && not (getD (s .t3) (l .x) _)) (tall-turn (s .t1) (s .t2) (l .x) (w .is-tall .result) (c .goes-on .result) (w .is-tall .ensures) (c .goes-on .ensures)))
+          (ap (λ (b : Bool). b && not (getD (s .t3) (l .x) false)) (tall-turn (s .t1) (s .t2) (l .x) (w .is-tall .result) (c .goes-on .result) (w .is-tall .ensures) (c .goes-on .ensures)))
           (omega arith),
     )
 
