@@ -28,21 +28,21 @@ module _ (lines : ℕ) (columns₀ : List ℕ) (x : ℕ) (column : List ℕ) whe
   pub put-none : length columns₀ ≡ 40 * lines → PutTo lines columns₀ x column columns₀ 0
   put-none h = record { long = h; here = λ k l. absurd (not-suc-le-zero l); others = λ i e. refl }
 
+  -- the next byte, at the place that the code has
   pub put-one :
-      (columns : List ℕ) (n : ℕ) → x < 40 → n < lines → PutTo lines columns₀ x column columns n
-      → PutTo lines columns₀ x column (set columns (40 * n + x) (getD column n 0)) (n + 1)
-  put-one columns n hx hn p =
-      let place = 40 * n + x in
+      (columns : List ℕ) (n place : ℕ) → place ≡ 40 * n + x → x < 40 → n < lines → PutTo lines columns₀ x column columns n
+      → PutTo lines columns₀ x column (set columns place (getD column n 0)) (n + 1)
+  put-one columns n place e hx hn p =
       let h : length columns ≡ 40 * lines = p .long in
       record {
         long = length-set columns place (getD column n 0) ∙ h;
         here =
             λ k l.
             ⊎-elim
-            (λ (q : k ≡ n). rw q (getD-set-same columns place (getD column n 0) 0 (omega arith)))
+            (λ (q : k ≡ n). rw (q, ← e) (getD-set-same columns place (getD column n 0) 0 (omega arith)))
             (λ (b : k < n). getD-set-other columns place (40 * k + x) (getD column n 0) 0 (λ q. omega arith) ∙ p .here k b)
             (eq-or-lt-of-le (omega arith));
-        others = λ i e. getD-set-other columns place i (getD column n 0) 0 (λ q. eqb-false (i % 40) x e (omega arith)) ∙ p .others i e;
+        others = λ i f. getD-set-other columns place i (getD column n 0) 0 (λ q. eqb-false (i % 40) x f (omega arith)) ∙ p .others i f;
       }
 
   pub put-end :

@@ -1,7 +1,7 @@
 -- Laws of a cell's ten bytes: which slice each line shows, and of it the half that is shown.
 -- Assumes nothing.
 use Prim.Native.Nat.{ℕ, _+_, _*_, _/_, _%_, _<_, _≤_}
-use mathlib.Core.Path.{_≡_, refl, sym, ap, _∙_}
+use mathlib.Core.Path.{_≡_, refl, sym, ap, ap₂, _∙_}
 use mathlib.Core.Bool.{Bool, true, false}
 use mathlib.Core.List.{List, [], _∷_}
 use mathlib.Core.Logic.{⊎-elim}
@@ -50,6 +50,12 @@ pub ten-listed :
 unfolding joined
 ten-listed s number p0 p1 p2 p3 p4 p5 p6 p7 p8 p9 = rw (p0, p1, p2, p3, p4, p5, p6, p7, p8, p9)
 
+-- the slices of a half, from what the code asked before it chose them
+pub half-chosen :
+    (s ten : List ℕ) (alphanumeric lower a l : Bool)
+    → ten ≡ byNumber s (twentyAt a l) → alphanumeric ≡ a → lower ≡ l → ten ≡ byNumber s (twentyAt alphanumeric lower)
+half-chosen s ten alphanumeric lower a l p e f = p ∙ sym (ap₂ (λ x y. byNumber s (twentyAt x y)) e f)
+
 -- the slices that the lines of a bichrome cell show
 module _ (b : BichromeCell) (lower : Bool) (slices : List ℕ) where
   pub shown-tall : (a : Bool) → a ≡ alphanumericOf (b .set) → b .tall ≡ true → byNumber slices (twentyAt a lower) ≡ byNumber slices (bichromeSlice b lower)
@@ -71,8 +77,9 @@ low-half false k n l e = sym (twenty-other n (omega arith)) ∙ omega (arith, eq
 
 -- those that the lines of a quadrichrome cell show
 module _ (q : QuadrichromeCell) (slices : List ℕ) where
-  pub shown-low : (k : ℕ) → q .resolution ≡ Low k → byNumber slices (twentyAt false (eqb (k % 2) 1)) ≡ byNumber slices (quadrichromeSlice q)
-  shown-low k e = table-same _ _ 10 (λ n l. rw e (ap (λ (i : ℕ). getD slices i 0) (low-half (eqb (k % 2) 1) k n l refl)))
+  pub shown-low :
+      (k : ℕ) → q .resolution ≡ Low k → (ten : List ℕ) → ten ≡ byNumber slices (twentyAt false (eqb (k % 2) 1)) → ten ≡ byNumber slices (quadrichromeSlice q)
+  shown-low k e ten p = p ∙ table-same _ _ 10 (λ n l. rw e (ap (λ (i : ℕ). getD slices i 0) (low-half (eqb (k % 2) 1) k n l refl)))
 
   pub shown-high : q .resolution ≡ High → length slices ≡ 10 → slices ≡ byNumber slices (quadrichromeSlice q)
   shown-high e h = table-of slices 10 0 h ∙ table-same _ _ 10 (λ n l. rw e)

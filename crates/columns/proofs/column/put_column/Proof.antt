@@ -36,7 +36,7 @@ loop-less c = omega arith
 
 loop-again : tie.Need-loop-again Inv-loop μ-loop
 loop-again c = let l = c .before .before .loop in
-    (omega arith, l .inv .1, put-one _ _ _ _ (l .columns) (l .n) (omega arith) (omega arith) (l .inv .2))
+    (omega arith, l .inv .1, put-one _ _ _ _ (l .columns) (l .n) _ (omega arith) (omega arith) (omega arith) (l .inv .2))
 
 same-length : tie.Need-same-length Inv-loop μ-loop
 same-length c = search needs

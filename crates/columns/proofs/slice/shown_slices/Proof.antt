@@ -41,7 +41,7 @@ returns-3 c = let q = c .before .before .before in
 returns-4 : tie.Need-returns-4
 returns-4 c = let r = c .before .before in
     let q = r .before .before .before in
-    rw (q .cell2 .given .1) (c .tall-slices2 .ensures ∙ shown-low (q .cell2 .given .0 .0) (q .before .before .args .slices) _ (r .resolution .given .1))
+    rw (q .cell2 .given .1) (shown-low (q .cell2 .given .0 .0) (q .before .before .args .slices) (r .resolution .given .0 .0) (r .resolution .given .1) _ (c .tall-slices2 .ensures))
 
 pub shown-slices-spec : {M : Type 1} → statement M
 shown-slices-spec =
