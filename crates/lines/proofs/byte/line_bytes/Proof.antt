@@ -12,7 +12,7 @@ underlined-requires : tie.Need-underlined-requires
 underlined-requires c κs = search needs
 
 returns : tie.Need-returns
-returns c = c .underlined .ensures ∙ bytes-lined _ _ _ _ _ (c .before .before .plain-bytes .ensures) 9 (c .before .if1 .taken)
+returns c = c .underlined .ensures ∙ bytes-lined _ _ _ _ _ (c .before .before .plain-bytes .ensures) 9 (omega arith)
 
 returns-2 : tie.Need-returns-2
 returns-2 c = bytes-plain _ _ _ _ _ (c .before .plain-bytes .ensures) (omega arith)

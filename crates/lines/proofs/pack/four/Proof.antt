@@ -1,3 +1,4 @@
+use mathlib.Core.List.{[], _∷_}
 use Rattle.cell.proofs.Drawn.{four-made}
 use borrow.Author.Needs.{needs}
 use Rattle.lines.proofs.pack.four.Statement.{statement}
@@ -16,7 +17,8 @@ chosen-requires-4 : tie.Need-chosen-requires-4
 chosen-requires-4 c κs = search needs
 
 returns : tie.Need-returns
-returns c = four-made _ _ _ _ _ _ (c .before .before .before .chosen .ensures) (c .before .before .chosen2 .ensures) (c .before .chosen3 .ensures) (c .chosen4 .ensures)
+returns c = let a = c .before .before .before .before .args in
+    four-made (a .by) (a .none ∷ a .left ∷ a .right ∷ a .both ∷ []) _ _ _ _ (c .before .before .before .chosen .ensures) (c .before .before .chosen2 .ensures) (c .before .chosen3 .ensures) (c .chosen4 .ensures)
 
 pub four-spec : {M : Type 1} → statement M
 four-spec =
