@@ -11,7 +11,7 @@ use native.Mathlib.Omega.{arith}
 use lib.ListN.{length}
 use lib.Seq.{take-all}
 use borrow.Rule.Slice.PartMut.{putMid, midOf, same-len-mid}
-use Rattle.basics.specs.Choice.{pick, oneIf}
+use Rattle.basics.specs.Choice.{oneIf}
 use Rattle.basics.specs.Below.{anyBelow}
 use Rattle.basics.specs.Parts.{partOf}
 use Rattle.basics.proofs.Choice.{bool-cases}
@@ -25,10 +25,10 @@ use Rattle.picture.specs.Redraws.{rowAfter, redrawnRows, freshRows}
 
 module _ (k : ℕ) (marks : List Bool) (picture : List ℕ) (row : ℕ → List ℕ) where
   row-marked : (r : ℕ) → isMarked marks r ≡ true → row r ≡ rowAfter k marks picture row r
-  row-marked r e = sym (ap (λ (b : Bool). pick b (row r) (partOf (rowBytes k) picture r)) e)
+  row-marked r e = rw e
 
   row-kept : (r : ℕ) → isMarked marks r ≡ false → partOf (rowBytes k) picture r ≡ rowAfter k marks picture row r
-  row-kept r e = sym (ap (λ (b : Bool). pick b (row r) (partOf (rowBytes k) picture r)) e)
+  row-kept r e = rw e
 
   pub each-after :
       ((r : ℕ) → length (row r) ≡ rowBytes k) → length picture ≡ pictureBytes k → (n : ℕ) → n ≤ 25 → Each (rowBytes k) (rowAfter k marks picture row) n

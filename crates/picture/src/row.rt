@@ -19,7 +19,8 @@ fn copy_line(part: &mut [u8], line: [u8; 160])
     ensures { λ _. ⌜ now (part .exit) ≡ line ⌝ }
 {
     for i in 0..LINE_BYTES {
-        part[i] = line[i];
+        let byte = line[i];
+        part[i] = byte;
     }
 }
 

@@ -1,11 +1,12 @@
 use Rattle.picture.proofs.AnyRows.{DrawnTo, start, keep}
 use Rattle.picture.proofs.Redrawing.{drew-row, redrawn-end, not-known, known-next}
 use Rattle.picture.specs.Rows.{rowOf}
+use Rattle.page.specs.Marks.{isMarked}
 use Rattle.page.specs.HowHalves.{KnownAbove}
 use Rattle.shown.specs.Lengths.{columnBytes}
 use borrow.Author.Tests.{not-true, not-false}
 use native.Mathlib.Omega.{arith}
-use Prim.Native.Nat.{_-_}
+use Prim.Native.Nat.{_+_, _-_}
 use borrow.Author.Needs.{needs}
 use Rattle.picture.proofs.redraw.redraw_rows.Statement.{statement}
 use Rattle.picture.proofs.redraw.redraw_rows.Tie as tie
@@ -31,8 +32,10 @@ loop-less c = omega arith
 loop-again : tie.Need-loop-again Inv-loop μ-loop
 loop-again c = let t = c .before in
     let l = t .before .loop in
-    let a = t .before .before .before .before .before .args in
-    (keep columnBytes _ _ (rowOf (a .memory .now) (a .rom .now) (a .shown)) _ _ _ (l .inv .0) (t .loop-test .taken) (not-true _ (c .if1 .taken)), not-known (a .memory .now) (a .shown) _ _ _)
+    let a = t .before .before .before .before .before .args in (
+      keep columnBytes _ _ (rowOf (a .memory .now) (a .rom .now) (a .shown)) _ _ _ (l .inv .0) (t .loop-test .taken) (not-true (isMarked (a .t5) (l .r)) (c .if1 .taken)),
+      not-known (a .memory .now) (a .shown) (l .r + 1) (l .above) (l .halves),
+    )
 
 cast-row-buffer : tie.Need-cast-row-buffer Inv-loop μ-loop
 cast-row-buffer c = search needs
@@ -83,7 +86,7 @@ loop-again-2 c = let d = c .before .before in
     let t = b .before .before in
     let l = t .before .loop in
     let a = t .before .before .before .before .before .args in (
-      drew-row _ _ (a .memory .now) (a .rom .now) (a .shown) _ _ _ (l .inv .0) (t .loop-test .taken) (not-false _ (b .before .if1 .left)) _ _ (d .draw-row .last .0)
+      drew-row _ _ (a .memory .now) (a .rom .now) (a .shown) _ _ _ (l .inv .0) (t .loop-test .taken) (not-false (isMarked (a .t5) (l .r)) (b .before .if1 .left)) _ _ (d .draw-row .last .0)
           (b .row-buffer .ensures) (h .lower-halves-after .ensures) (d .draw-row .ensures) (search needs),
       known-next (a .memory .now) (a .shown) (l .r) _ _ (b .row-buffer .ensures) (h .lower-halves-after .ensures),
     )

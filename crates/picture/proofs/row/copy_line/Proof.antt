@@ -18,8 +18,8 @@ abbrev μ-loop : tie.MeasureT-loop
 loop-holds : tie.Need-loop-holds Inv-loop μ-loop
 loop-holds c = (omega arith, c .pre, refl)
 
-array-read-part : tie.Need-array-read-part Inv-loop μ-loop
-array-read-part c = search needs
+array-read-byte : tie.Need-array-read-byte Inv-loop μ-loop
+array-read-byte c = search needs
 
 slice-write-part : tie.Need-slice-write-part Inv-loop μ-loop
 slice-write-part c = search needs
@@ -50,7 +50,7 @@ copy-line-spec =
     Inv-loop
     μ-loop
     loop-holds
-    array-read-part
+    array-read-byte
     slice-write-part
     add-i
     loop-less
