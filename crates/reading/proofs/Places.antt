@@ -1,12 +1,12 @@
 -- Which rows have a byte among their own: the place of a legal triple is that of one cell's byte on the page, or of none.
 -- Assumes nothing.
 use Prim.Native.Nat.{ℕ, _+_, _-_, _%_, _≤_, _<_}
-use mathlib.Core.Path.{_≡_, sym, ap, _∙_}
-use mathlib.Core.Bool.{Bool, true, _&&_}
+use mathlib.Core.Path.{_≡_, sym, ap, ap₂, _∙_}
+use mathlib.Core.Bool.{Bool, true, _&&_, _||_}
 use mathlib.Core.Logic.{_⊎_, ⊎-elim}
 use native.Mathlib.Omega.{arith}
 use lib.Dec.{eqb}
-use borrow.Author.Tests.{lt-ltb, le-ltb, eq-eqb, eqb-true}
+use borrow.Author.Tests.{lt-ltb, le-ltb, eq-eqb, ne-eqb, eqb-true}
 use Rattle.basics.proofs.Choice.{and-left, and-right, and-both, or-cases, or-left, or-right, eq-or-ne}
 use Rattle.basics.proofs.Below.{any-hit, any-at}
 use Rattle.address.specs.declared.triple.Triple.{Triple}
@@ -23,6 +23,24 @@ use Rattle.reading.proofs.Tests.{together}
 
 pub legal-row : (at : Triple) → legal at ≡ true → at .y < 32
 legal-row at e = ⊎-elim (λ r. omega arith) (λ r. omega arith) (page-row (at .x) (at .y) (legal-page _ at e))
+
+-- the code asks the three blocks in turn
+module _ (first z : ℕ) where
+  pub block-first : (a : ℕ) → a ≡ blockOf first 0 → a ≡ z → true ≡ codeBlock first z
+  unfolding codeBlock
+  block-first a ea e = sym (or-left _ _ (eq-eqb (blockOf first 0) z (sym ea ∙ e)))
+
+  pub block-second : (b : ℕ) → b ≡ blockOf first 1 → b ≡ z → true ≡ codeBlock first z
+  unfolding codeBlock
+  block-second b eb e = sym (or-right (eqb (blockOf first 0) z) _ (or-left _ _ (eq-eqb (blockOf first 1) z (sym eb ∙ e))))
+
+  pub block-third :
+      (a b c : ℕ) → a ≡ blockOf first 0 → b ≡ blockOf first 1 → c ≡ blockOf first 2 → (a ≡ z → ⊥) → (b ≡ z → ⊥) → eqb c z ≡ codeBlock first z
+  unfolding codeBlock
+  block-third a b c ea eb ec na nb =
+      sym
+      (ap₂ _||_ (ne-eqb _ _ (λ e. na (ea ∙ e)))
+      (ap₂ _||_ (ne-eqb _ _ (λ e. nb (eb ∙ e))) (ap (λ (k : ℕ). eqb k z) (omega (arith, ec)))))
 
 module _ (x y z : ℕ) (page : onPage x y ≡ true) (shown : Shown) (r : ℕ) where
   -- the row's Y and one of the three blocks

@@ -1,6 +1,7 @@
 use Rattle.reading.proofs.Places.{legal-row}
 use Rattle.reading.specs.HowAsked.{keysOf}
 use native.Mathlib.Omega.{arith}
+use mathlib.Core.Path.{refl}
 use borrow.Author.Needs.{needs}
 use Rattle.reading.proofs.key.keys_of.Statement.{statement}
 use Rattle.reading.proofs.key.keys_of.Tie as tie
@@ -28,7 +29,7 @@ key-if-requires-3 c κs = search needs
 
 returns : tie.Need-returns
 unfolding keysOf
-returns c = rw (c .before .before .before .before .before .before .before .before .key-if .ensures, c .before .before .before .before .key-if2 .ensures, c .key-if3 .ensures)
+returns c = rw (c .before .before .before .before .before .before .before .before .key-if .ensures, c .before .before .before .before .key-if2 .ensures, c .key-if3 .ensures) refl
 
 pub keys-of-spec : {M : Type 1} → statement M
 keys-of-spec =
