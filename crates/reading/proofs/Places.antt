@@ -97,9 +97,13 @@ module _ (yor y : ℕ) where
   unfolding rowAt
   row-at-service h = simp (lt-ltb _ _ h)
 
-  pub row-at-other : 8 ≤ y → rowAt yor y ≡ 1 + (y + 16 - (yor - 8) % 24) % 24
+  row-at-other : 8 ≤ y → rowAt yor y ≡ 1 + (y + 16 - (yor - 8) % 24) % 24
   unfolding rowAt
   row-at-other h = simp (le-ltb _ _ h)
+
+  -- the number that the code has
+  pub row-at-made : (f r : ℕ) → 8 ≤ y → f ≡ yor - 8 → r ≡ 1 + (y + 16 - f % 24) % 24 → r ≡ rowAt yor y
+  row-at-made f r h e q = q ∙ ap (λ (g : ℕ). 1 + (y + 16 - g % 24) % 24) e ∙ sym (row-at-other h)
 
   pub row-at : (r : ℕ) → r < 25 → legalY y ≡ true → eqb r (rowAt yor y) ≡ eqb (rowY yor r) y
   row-at r l e =

@@ -1,6 +1,6 @@
-use Prim.Native.Nat.{ℕ, _+_, _-_, _%_}
-use mathlib.Core.Path.{sym, ap, _∙_}
-use Rattle.reading.proofs.Places.{row-at-service, row-at-other}
+use native.Mathlib.Omega.{arith}
+use mathlib.Core.Path.{sym}
+use Rattle.reading.proofs.Places.{row-at-service, row-at-made}
 use borrow.Author.Needs.{needs}
 use Rattle.reading.proofs.own.row_at.Statement.{statement}
 use Rattle.reading.proofs.own.row_at.Tie as tie
@@ -28,7 +28,7 @@ add-result c = search needs
 
 returns-2 : tie.Need-returns-2
 returns-2 c = let s = c .before .before .args in
-    ap (λ (f : ℕ). 1 + (s .y + 16 - f % 24) % 24) (c .past-eight .ensures) ∙ sym (row-at-other (s .yor) (s .y) (c .before .if1 .left))
+    row-at-made (s .yor) (s .y) _ _ (c .before .if1 .left) (c .past-eight .ensures) (omega arith)
 
 pub row-at-spec : {M : Type 1} → statement M
 row-at-spec = tie.close (tie.spec returns add-on past-eight-requires cast-on sub-on cast-result add-result returns-2)
