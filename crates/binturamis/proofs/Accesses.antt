@@ -26,6 +26,7 @@ use Rattle.kept.proofs.Walk.{Ends, write-known}
 use Rattle.packing.specs.Layouts.{packed, unpacked}
 use Rattle.binturamis.specs.Calls.{word, isRefusal, called, callOf}
 use Rattle.binturamis.proofs.Calls.{call-made}
+use Rattle.binturamis.proofs.Leaving.{accepted-packed}
 
 -- a register written in the bytes is the register written
 unpacked-set : (bytes : List ℕ) (n v : ℕ) → n < 8 → unpacked (set bytes n v) ≡ withRegister (unpacked bytes) n v
@@ -55,7 +56,10 @@ module _ (address : ℕ) (m : List ℕ) (plain : Bool) (test : plain ≡ (eqb (l
       (v : ℕ) (bytes b : List ℕ) (p : Processor) → p ≡ unpacked (set bytes (address % 8) v) → b ≡ packed p
       → called b m 0 ≡ callOf isEarly bytes (written address v (chip (unpacked bytes) m))
   plain-write-made v bytes b p ep eb =
-      rw (plain-written address m right four v (unpacked bytes), ← unpacked-set bytes (address % 8) v (omega arith), ← ep, ← eb)
+      let n = address % 8 in
+      let p = withRegister (unpacked bytes) n v in
+      ap (λ (c : List ℕ). called c m 0) (eb ∙ ap packed (ep ∙ unpacked-set bytes n v (omega arith)) ∙ accepted-packed bytes p)
+      ∙ sym (ap (callOf isEarly bytes) (plain-written address m right four v (unpacked bytes)))
 
   pub plain-read-made :
       (bytes b : List ℕ) (p : Processor) (v : ℕ) → p ≡ unpacked bytes → b ≡ packed p → v ≡ registerRead p (address % 8)
