@@ -25,7 +25,7 @@ use Rattle.page.specs.declared.source.Source.the-variants.{Rom, Block}
 use Rattle.page.proofs.Halves.{half-same}
 use Rattle.picture.specs.Rows.{painted, rowOf}
 use Rattle.reading.specs.Lists.{codePlace, codeHolds, rowHolds, isAt, sourceHolds, cellHolds, slicesHold, hasTall, aboveHolds, onList}
-use Rattle.kept.specs.Agreeing.{Agree}
+use Rattle.kept.specs.Agreeing.{Agree, AgreeOnList, FrameLaw}
 
 eqb-self : (p : ℕ) → eqb p p ≡ true
 eqb-self p = eq-eqb p p refl
@@ -138,7 +138,7 @@ module _ (shown : Shown) (m n : List ℕ) where
       )
 
 -- the frame law
-module _ (shown : Shown) (m n : List ℕ) (r : ℕ) (agree : Agree (λ p. onList shown m p r) m n) where
+module _ (shown : Shown) (m n : List ℕ) (r : ℕ) (agree : AgreeOnList shown m n r) where
   its-own : Own shown m n r
   unfolding onList
   its-own p h = agree p (or-left _ _ h)
@@ -161,6 +161,6 @@ module _ (shown : Shown) (m n : List ℕ) (r : ℕ) (agree : Agree (λ p. onList
   unfolding rowInput
   input-same = table-same _ _ 40 (λ x l. cell-same shown m n r x its-own its-up its-slices l)
 
-  -- and so are its bytes, for every ROM
-  pub bytes-same : (rom : List ℕ) → rowOf m rom shown r ≡ rowOf n rom shown r
-  bytes-same rom = ap (painted rom shown) input-same
+-- and so are its bytes, for every ROM
+pub frame-law : FrameLaw
+frame-law shown m n r agree rom = ap (painted rom shown) (input-same shown m n r agree)

@@ -24,8 +24,8 @@ use Rattle.reading.specs.Lists.{onList}
 use Rattle.reading.specs.Marks.{storeMarks, flashIn, phaseMarks}
 use Rattle.picture.proofs.Phases.{anyFlashes}
 use Rattle.picture.proofs.Registers.{row-steady}
-use Rattle.kept.specs.Agreeing.{Agree}
-use Rattle.kept.proofs.Frame.{list-same, bytes-same}
+use Rattle.kept.specs.Agreeing.{AgreeOnList}
+use Rattle.kept.proofs.Frame.{list-same, frame-law}
 
 -- a row that was not marked too was not marked before
 not-before : (f : ℕ → Bool) (marks : List Bool) (r : ℕ) → r < 25 → isMarked (markedToo f marks) r ≡ false → isMarked marks r ≡ false
@@ -43,7 +43,7 @@ unfolding markedToo
 not-passed f marks r l e = or-none (isMarked marks r) (f r) (sym (table-at (λ s. isMarked marks s || f s) 25 r false l) ∙ e)
 
 -- a byte that is on no list of the row: the memories agree on what is on it
-agree-off : (shown : Shown) (m : List ℕ) (p v r : ℕ) → onList shown m p r ≡ false → Agree (λ q. onList shown m q r) m (set m p v)
+agree-off : (shown : Shown) (m : List ℕ) (p v r : ℕ) → onList shown m p r ≡ false → AgreeOnList shown m (set m p v) r
 agree-off shown m p v r off q on =
     sym (getD-set-other m p q v 0 (λ e. false≢true (sym off ∙ ap (λ (s : ℕ). onList shown m s r) (sym e) ∙ on)))
 
@@ -64,7 +64,7 @@ module _ (shown : Shown) (m : List ℕ) (p v : ℕ) (marks : List Bool) (can : c
   changed : eqb (byteAt m p) v ≡ false → isMarked (storeMarks shown m p v marks) r ≡ false → Same-bytes
   unfolding storeMarks
   changed e unmarked rom =
-      sym (bytes-same shown m (set m p v) r
+      sym (frame-law shown m (set m p v) r
       (agree-off shown m p v r
       (not-passed (onList shown m p) marks r l (rw (can, e) at unmarked)))
       rom)
