@@ -64,7 +64,7 @@ pub extern "C" fn binturamis_read(p: &mut [u8; 64], memory: &mut [u8], address: 
     let before = unpacked(*p);
     if is_plain(memory.len(), address) {
         *p = packed(before);
-        return before.register(address % 8) as u32;
+        return before.register(address) as u32;
     }
     let answered = before.read(memory, address);
     leave(p, answered)

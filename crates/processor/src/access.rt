@@ -49,7 +49,7 @@ impl Processor {
         if is_refused(memory.len(), address) {
             return refused(self, memory.len());
         }
-        let next = self.with_register(address % 8, value);
+        let next = self.with_register(address, value);
         execute(next, memory, address, 0)
     }
 
@@ -60,7 +60,7 @@ impl Processor {
         if is_refused(memory.len(), address) {
             return refused(self, memory.len());
         }
-        let value = self.register(address % 8);
+        let value = self.register(address);
         execute(self, memory, address, value)
     }
 

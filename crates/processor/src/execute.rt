@@ -1,7 +1,7 @@
 // The execution of a command, after the access that asked for it.
 ghost use mathlib.Core.Path.{_≡_};
 ghost use mathlib.Core.Bool.{false};
-ghost use Prim.Native.Nat.{_<_};
+ghost use Prim.Native.Nat.{_%_};
 ghost use lib.ListN.{length};
 ghost use Rattle.address.specs.Boards.{memoryBytes};
 ghost use Rattle.command.specs.Commands.{Asked};
@@ -23,8 +23,7 @@ pub struct Answered {
 }
 
 fn indirect(p: Processor, r: u8, reads: bool) -> Processor
-    requires { ⌜ r < 8 ⌝ }
-    ensures { λ q. ⌜ q ≡ Rattle.processor.specs.Access.indirect r reads p ⌝ }
+    ensures { λ q. ⌜ q ≡ Rattle.processor.specs.Access.indirect (r % 8) reads p ⌝ }
 {
     if reads {
         return p.indirect_read(r);

@@ -1,6 +1,6 @@
 // The processor's state, and its registers.
 ghost use mathlib.Core.Path.{_≡_};
-ghost use Prim.Native.Nat.{_<_};
+ghost use Prim.Native.Nat.{_%_};
 ghost use Rattle.processor.specs.States.{powerUp, statusOf, withRegister, registerRead, cleared, indirectRead, indirectWritten, shownOf};
 use shown::Shown;
 
@@ -29,11 +29,11 @@ impl Processor {
         }
     }
 
+    // A register is named by a number modulo 8, as by the low three bits of an address.
     pub fn with_register(mut self, n: u8, value: u8) -> Self
-        requires { ⌜ n < 8 ⌝ }
-        ensures { λ r. ⌜ r ≡ withRegister self n value ⌝ }
+        ensures { λ r. ⌜ r ≡ withRegister self (n % 8) value ⌝ }
     {
-        let i = n as usize;
+        let i = (n % 8) as usize;
         self.registers[i] = value;
         self
     }
@@ -55,13 +55,12 @@ impl Processor {
     }
 
     pub fn register(self, n: u8) -> u8
-        requires { ⌜ n < 8 ⌝ }
-        ensures { λ r. ⌜ r ≡ registerRead self n ⌝ }
+        ensures { λ r. ⌜ r ≡ registerRead self (n % 8) ⌝ }
     {
-        if n == 0 {
+        let i = (n % 8) as usize;
+        if i == 0 {
             return self.status();
         }
-        let i = n as usize;
         self.registers[i]
     }
 
@@ -76,10 +75,9 @@ impl Processor {
 
     // R1 from an indirect register.
     pub fn indirect_read(mut self, r: u8) -> Self
-        requires { ⌜ r < 8 ⌝ }
-        ensures { λ p. ⌜ p ≡ indirectRead self r ⌝ }
+        ensures { λ p. ⌜ p ≡ indirectRead self (r % 8) ⌝ }
     {
-        let i = r as usize;
+        let i = (r % 8) as usize;
         let value = self.indirect[i];
         self.registers[1] = value;
         self
@@ -87,17 +85,16 @@ impl Processor {
 
     // R1 to an indirect register: a changed value marks every row, except in MAT.
     pub fn indirect_written(mut self, r: u8) -> Self
-        requires { ⌜ r < 8 ⌝ }
-        ensures { λ p. ⌜ p ≡ indirectWritten self r ⌝ }
+        ensures { λ p. ⌜ p ≡ indirectWritten self (r % 8) ⌝ }
     {
-        let i = r as usize;
+        let i = (r % 8) as usize;
         let value = self.registers[1];
         let old = self.indirect[i];
         self.indirect[i] = value;
         if old == value {
             return self;
         }
-        if r == 2 {
+        if i == 2 {
             return self;
         }
         self.marks = [true; 25];

@@ -1,3 +1,4 @@
+use native.Mathlib.Nat.{mod-eq-of-lt}
 use borrow.Author.Tests.{not-false}
 use borrow.Author.Needs.{needs}
 use Rattle.processor.proofs.execute.effect.Statement.{statement}
@@ -10,7 +11,7 @@ enum-known-command : tie.Need-enum-known-command
 enum-known-command c = search needs
 
 indirect-requires : tie.Need-indirect-requires
-indirect-requires c κs = rw (c .before .command .given .1) at (c .before .before .before .before .pre .1)
+indirect-requires c κs = search needs
 
 enum-known-command-2 : tie.Need-enum-known-command-2
 enum-known-command-2 c = search needs
@@ -31,7 +32,8 @@ returns : tie.Need-returns
 returns c = rw (c .enum-told .given .1)
 
 returns-2 : tie.Need-returns-2
-returns-2 c = rw (c .before .before .command .given .1, c .indirect .ensures)
+returns-2 c = let g = c .before .before in
+    rw (g .command .given .1, c .indirect .ensures, mod-eq-of-lt (rw (g .command .given .1) at (g .before .before .before .pre .1)))
 
 same-length : tie.Need-same-length
 same-length c = search needs

@@ -4,6 +4,9 @@ use borrow.Author.Needs.{needs}
 use Rattle.processor.proofs.state.Processor.indirect_written.Statement.{statement}
 use Rattle.processor.proofs.state.Processor.indirect_written.Tie as tie
 
+cast-i : tie.Need-cast-i
+cast-i c = search needs
+
 element-copy-out-value : tie.Need-element-copy-out-value
 element-copy-out-value c = search needs
 
@@ -27,6 +30,7 @@ pub indirect-written-spec : {M : Type 1} → statement M
 indirect-written-spec =
     tie.close
     (tie.spec
+    cast-i
     element-copy-out-value
     element-copy-out-old
     element-write-self

@@ -4,6 +4,9 @@ use borrow.Author.Needs.{needs}
 use Rattle.processor.proofs.state.Processor.register.Statement.{statement}
 use Rattle.processor.proofs.state.Processor.register.Tie as tie
 
+cast-i : tie.Need-cast-i
+cast-i c = search needs
+
 status-requires : tie.Need-status-requires
 status-requires c κs = search needs
 
@@ -19,4 +22,5 @@ unfolding registerRead
 returns-2 c = rw (ne-eqb _ _ (c .before .if1 .left))
 
 pub register-spec : {M : Type 1} → statement M
-register-spec = tie.close (tie.spec status-requires returns element-copy-out-result returns-2)
+register-spec =
+    tie.close (tie.spec cast-i status-requires returns element-copy-out-result returns-2)
