@@ -1,4 +1,4 @@
--- The ways of an access, a phase change and an IND: one law for each end of the code, from what the code learnt on the way.
+-- The ways of an access, a command, a phase change and a draw: one law for each end of the code, from what the code learnt on the way.
 -- Assumes nothing.
 use Prim.Native.Nat.{ℕ, _/_, _<_, _≤_}
 use mathlib.Core.Path.{_≡_, refl, sym, ap, _∙_}
@@ -11,14 +11,23 @@ use Rattle.basics.specs.Bits.{bits}
 use Rattle.basics.proofs.Choice.{or-neither}
 use Rattle.basics.specs.Choice.{pick}
 use Rattle.address.specs.Boards.{memoryBytes}
+use Rattle.address.specs.Places.{blockAt, loaded}
+use Rattle.address.specs.declared.triple.Triple.{Triple}
 use Rattle.shown.specs.declared.Shown.{Shown}
-use Rattle.page.specs.Marks.{allMarked}
+use Rattle.shown.specs.Lengths.{romBytes, columnBytes, pictureBytes}
+use Rattle.shown.specs.Refusals.{refused7, refused8}
+use Rattle.page.specs.Marks.{allMarked, noneMarked, markedRows}
+use Rattle.picture.specs.Redraws.{redrawn}
 use Rattle.reading.specs.Marks.{phaseMarks}
 use Rattle.command.specs.declared.answer.Answer.{Answer}
 use Rattle.command.specs.declared.answer.Answer.the-variants.{Accepted, WrongMemory, WrongAddress, WrongPhase}
+use Rattle.command.specs.declared.answer.Drawing.the-variants as drawing
 use Rattle.processor.specs.declared.state.Processor.{Processor}
-use Rattle.processor.specs.States.{Chip, chip, registerOf, shownOf, withIndirect, withPhase, indirectWritten}
+use Rattle.processor.specs.States.{Chip, chip, registerOf, shownOf, withRegister, withIndirect, withMarks, withPhase, cleared, indirectWritten}
+use Rattle.processor.specs.Pointers.{pointerOf, incrementedIf}
+use Rattle.processor.specs.Bytes.{stored, oct, codeStored}
 use Rattle.processor.specs.Access.{Outcome, outcome, checked, phased, turned}
+use Rattle.processor.specs.Draws.{drawOutcome, drawn, drawnPage}
 use Rattle.processor.proofs.Laws.{high-bits}
 
 -- the head of an access: the memory's length, and the address's high bits
@@ -61,6 +70,32 @@ module _ (address : ℕ) (k : Chip) (done : Outcome) (b : Bool) (learnt : b ≡ 
       go true false r = absurd (false≢true (sym r))
       go false chosen r = absurd (false≢true (sym r))
 
+-- OCT, read and stored; r is what the increment leaves
+module _ (reads auxiliary increments : Bool) (k : Chip) (at : Triple) (free r : Processor) where
+  module _ (ea : at ≡ pointerOf auxiliary (k .processor)) (ef : free ≡ cleared (k .processor)) where
+    pub oct-loaded :
+        reads ≡ true → (v : ℕ) (next : Processor) → v ≡ loaded at (k .memory) → next ≡ withRegister free 1 v → r ≡ incrementedIf increments auxiliary next →
+        chip r (k .memory) ≡ oct reads auxiliary increments k
+    unfolding oct
+    oct-loaded t v next ev en er = rw (t, er, en, ev, ea, ef)
+
+    pub oct-stored :
+        reads ≡ false → (next : Processor) (after : List ℕ) → chip next after ≡ stored at (registerOf (k .processor) 1) (chip free (k .memory)) →
+        r ≡ incrementedIf increments auxiliary next → chip r after ≡ oct reads auxiliary increments k
+    unfolding oct
+    oct-stored f next after en er =
+        let s : chip next after ≡ stored (pointerOf auxiliary (k .processor)) (registerOf (k .processor) 1) (chip (cleared (k .processor)) (k .memory)) =
+        rw (← ea, ← ef) en in
+        ap (λ (q : Processor). chip q after) er ∙ ap (λ (k : Chip). chip (incrementedIf increments auxiliary (k .processor)) (k .memory)) s ∙ rw f
+
+-- the three stores of a code
+pub code-stored :
+    (t t0 t1 t2 : Triple) (k k1 k2 k3 : Chip) → t0 ≡ blockAt t 0 → t1 ≡ blockAt t 1 → t2 ≡ blockAt t 2 →
+    k1 ≡ stored t0 (registerOf (k .processor) 1) k → k2 ≡ stored t1 (registerOf (k .processor) 2) k1 →
+    k3 ≡ stored t2 (registerOf (k .processor) 3) k2 → k3 ≡ codeStored t k
+unfolding codeStored
+code-stored t t0 t1 t2 k k1 k2 k3 b0 b1 b2 s1 s2 s3 = rw (s3, s2, s1, b2, b1, b0)
+
 -- a phase change: refused with 1, refused with 9, the present phase, and another
 module _ (n : ℕ) (k : Chip) where
   pub turn-memory-refused : (length (k .memory) ≡ memoryBytes → ⊥) → outcome k WrongMemory ≡ turned n k
@@ -85,6 +120,40 @@ module _ (n : ℕ) (k : Chip) where
         ap (λ (marks : List Bool). outcome (chip (withPhase (k .processor) n marks) (k .memory)) (Accepted 0))
         (ea ∙ ap (λ (w : Shown). phaseMarks w (k .memory) (k .processor .marks)) es)
         ∙ rw (eq-eqb _ _ e, le-leb _ _ l, ne-eqb _ _ s)
+
+-- a draw: refused with 1, 5, 6, 7 and 8, and done
+module _ (p : Processor) (m rom picture : List ℕ) where
+  pub draw-memory-refused : (length m ≡ memoryBytes → ⊥) → drawOutcome p picture drawing.WrongMemory ≡ drawn p m rom picture
+  unfolding drawn
+  draw-memory-refused e = rw (ne-eqb _ _ e)
+
+  module _ (em : length m ≡ memoryBytes) where
+    pub rom-refused : (length rom ≡ romBytes → ⊥) → drawOutcome p picture drawing.WrongRom ≡ drawn p m rom picture
+    unfolding drawn
+    rom-refused e = rw (eq-eqb _ _ em, ne-eqb _ _ e)
+
+    module _ (er : length rom ≡ romBytes) where
+      pub picture-refused :
+          (length picture ≡ pictureBytes columnBytes → ⊥) → drawOutcome p picture drawing.WrongPicture ≡ drawn p m rom picture
+      unfolding drawn
+      picture-refused e = rw (eq-eqb _ _ em, eq-eqb _ _ er, ne-eqb _ _ e)
+
+      module _ (ep : length picture ≡ pictureBytes columnBytes) (shown : Shown) (es : shown ≡ shownOf p) (b7 : Bool) (e7 : b7 ≡ refused7 shown) where
+        pub draw-refused-7 : b7 ≡ true → drawOutcome p picture drawing.NotBuilt ≡ drawn p m rom picture
+        unfolding drawn
+        draw-refused-7 t = rw (eq-eqb _ _ em, eq-eqb _ _ er, eq-eqb _ _ ep, ← es, ← e7, t)
+
+        module _ (f7 : b7 ≡ false) (b8 : Bool) (e8 : b8 ≡ refused8 shown) where
+          pub draw-refused-8 : b8 ≡ true → drawOutcome p picture drawing.LowOrigin ≡ drawn p m rom picture
+          unfolding drawn
+          draw-refused-8 t = rw (eq-eqb _ _ em, eq-eqb _ _ er, eq-eqb _ _ ep, ← es, ← e7, f7, ← e8, t)
+
+          pub draw-done :
+              b8 ≡ false → (after : List ℕ) (rows : ℕ) → after ≡ redrawn (p .marks) picture m rom shown → rows ≡ markedRows (p .marks) 25 →
+              drawOutcome (withMarks p noneMarked) after (drawing.Accepted rows) ≡ drawn p m rom picture
+          unfolding drawn drawnPage
+          draw-done f8 after rows ea en =
+              rw (ea, en, es, eq-eqb _ _ em, eq-eqb _ _ er, eq-eqb _ _ ep, ap refused7 (sym es) ∙ sym e7 ∙ f7, ap refused8 (sym es) ∙ sym e8 ∙ f8)
 
 -- IND written: an equal value, MAT, and another value in another register
 module _ (p : Processor) (r : ℕ) where

@@ -1,7 +1,7 @@
 use Rattle.address.specs.Boards.{boardDistricts}
 use Rattle.address.proofs.Places.{legal-block-at}
-use Rattle.processor.specs.Bytes.{codeStored}
-use mathlib.Core.Path.{_∙_}
+use Rattle.processor.specs.States.{chip}
+use Rattle.processor.proofs.Ways.{code-stored}
 use borrow.Author.Needs.{needs}
 use Rattle.processor.proofs.byte.code_stored.Statement.{statement}
 use Rattle.processor.proofs.byte.code_stored.Tie as tie
@@ -39,12 +39,12 @@ same-length : tie.Need-same-length
 same-length c = search needs
 
 returns : tie.Need-returns
-unfolding codeStored
 returns c = let s3 = c .before .before in
     let s2 = s3 .before .before .before .before .before in
     let s1 = s2 .before .before .before .before .before in
-    s3 .store3 .ensures
-    ∙ rw (s3 .before .block-at3 .ensures, s2 .store2 .ensures, s2 .before .block-at2 .ensures, s1 .store .ensures, s1 .before .block-at .ensures)
+    let a = s1 .before .before .before .before .before .before .before .args in
+    code-stored _ _ _ _ (chip (a .t1) (a .memory .now)) _ _ _ (s1 .before .block-at .ensures) (s2 .before .block-at2 .ensures) (s3 .before .block-at3 .ensures)
+    (s1 .store .ensures) (s2 .store2 .ensures) (s3 .store3 .ensures)
 
 pub code-stored-spec : {M : Type 1} → statement M
 code-stored-spec =

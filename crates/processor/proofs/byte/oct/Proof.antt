@@ -1,7 +1,6 @@
 use Rattle.processor.proofs.Laws.{x-after-load, x-after-store}
-use Rattle.processor.specs.States.{Chip}
-use Rattle.processor.specs.Bytes.{oct}
-use mathlib.Core.Path.{ap}
+use Rattle.processor.specs.States.{chip}
+use Rattle.processor.proofs.Ways.{oct-loaded, oct-stored}
 use borrow.Author.Needs.{needs}
 use Rattle.processor.proofs.byte.oct.Statement.{statement}
 use Rattle.processor.proofs.byte.oct.Tie as tie
@@ -26,11 +25,11 @@ same-length : tie.Need-same-length
 same-length c = search needs
 
 returns : tie.Need-returns
-unfolding oct
 returns c = let l = c .before .before in
     let t = l .before .before in
     let f = t .before in
-    rw (t .if1 .taken, c .increment-if .ensures, c .before .with-register .ensures, l .load .ensures, f .cleared .ensures, f .before .pointer .ensures)
+    let a = f .before .before .before .args in
+    oct-loaded _ _ _ (chip (a .t1) (a .memory .now)) _ _ _ (f .before .pointer .ensures) (f .cleared .ensures) (t .if1 .taken) _ _ (l .load .ensures) (c .before .with-register .ensures) (c .increment-if .ensures)
 
 element-copy-out-r1 : tie.Need-element-copy-out-r1
 element-copy-out-r1 c = search needs
@@ -47,11 +46,11 @@ same-length-2 : tie.Need-same-length-2
 same-length-2 c = search needs
 
 returns-2 : tie.Need-returns-2
-unfolding oct
 returns-2 c = let t = c .before .before .before in
     let e = t .before .before .before in
     let f = e .before in
-    rw (e .if1 .left, c .increment-if2 .ensures, ap (λ (k : Chip). k .processor) (t .store .ensures), ap (λ (k : Chip). k .memory) (t .store .ensures), f .cleared .ensures, f .before .pointer .ensures)
+    let a = f .before .before .before .args in
+    oct-stored _ _ _ (chip (a .t1) (a .memory .now)) _ _ _ (f .before .pointer .ensures) (f .cleared .ensures) (e .if1 .left) _ _ (t .store .ensures) (c .increment-if2 .ensures)
 
 pub oct-spec : {M : Type 1} → statement M
 oct-spec =

@@ -1,3 +1,4 @@
+use mathlib.Core.Path.{refl}
 use borrow.Author.Needs.{needs}
 use Rattle.processor.proofs.execute.is_astray.Statement.{statement}
 use Rattle.processor.proofs.execute.is_astray.Tie as tie
@@ -30,10 +31,10 @@ enum-told-4 : tie.Need-enum-told-4
 enum-told-4 c = search needs
 
 returns : tie.Need-returns
-returns c = search needs
+returns c = rw (c .enum-told .given .1) refl
 
 returns-2 : tie.Need-returns-2
-returns-2 c = search needs
+returns-2 c = rw (c .enum-told2 .given .1) refl
 
 returns-3 : tie.Need-returns-3
 returns-3 c = rw (c .before .before .enum-told3 .given .1, c .is-legal .ensures, c .before .pointer .ensures)
@@ -42,7 +43,7 @@ returns-4 : tie.Need-returns-4
 returns-4 c = rw (c .before .before .before .command .given .1, c .is-legal2 .ensures, c .before .pointer2 .ensures)
 
 returns-5 : tie.Need-returns-5
-returns-5 c = search needs
+returns-5 c = rw (c .enum-told4 .given .1) refl
 
 pub is-astray-spec : {M : Type 1} → statement M
 is-astray-spec =

@@ -1,4 +1,4 @@
-use mathlib.Core.Path.{sym, ap, _∙_}
+use mathlib.Core.Path.{refl, sym, ap, _∙_}
 use Rattle.command.specs.declared.answer.Answer.the-variants.{Accepted}
 use Rattle.processor.specs.States.{Chip}
 use Rattle.processor.specs.Access.{outcome, ran}
@@ -11,14 +11,14 @@ is-unlisted-requires c κs = search needs
 
 returns : tie.Need-returns
 unfolding ran
-returns c = rw (sym (c .before .is-unlisted .ensures) ∙ c .if1 .taken)
+returns c = rw (sym (c .before .is-unlisted .ensures) ∙ c .if1 .taken) refl
 
 is-astray-requires : tie.Need-is-astray-requires
 is-astray-requires c κs = search needs
 
 returns-2 : tie.Need-returns-2
 unfolding ran
-returns-2 c = rw (sym (c .before .before .before .is-unlisted .ensures) ∙ c .before .before .if1 .left, sym (c .before .is-astray .ensures) ∙ c .if2 .taken)
+returns-2 c = rw (sym (c .before .before .before .is-unlisted .ensures) ∙ c .before .before .if1 .left, sym (c .before .is-astray .ensures) ∙ c .if2 .taken) refl
 
 effect-requires : tie.Need-effect-requires
 effect-requires c κs = (search needs, c .before .before .before .before .before .before .pre .1, sym (c .before .before .is-astray .ensures) ∙ c .before .if2 .left)
