@@ -2,26 +2,26 @@
 -- Assumes nothing.
 use Prim.Native.Nat.{ℕ}
 use mathlib.Core.Path.{_≡_, refl, sym, ap, _∙_}
+use mathlib.Core.Bool.{Bool}
 use mathlib.Core.List.{List, [], _∷_, _++_, map, append-assoc}
 use native.Mathlib.Omega.{arith}
-use lib.ListN.{length, replicate, length-append, length-map}
+use lib.ListN.{length, getD, take, drop, replicate, length-append, length-map}
 use lib.Seq.{paste}
 use Rattle.basics.specs.Choice.{oneIf}
 use Rattle.processor.specs.declared.state.Processor.{Processor}
-use Rattle.packing.specs.Layouts.{packed}
 use Rattle.processor.specs.States.{registerOf, statusOf, shownOf}
+use Rattle.packing.specs.Layouts.{unpacked, isOn}
 use Rattle.packing.specs.Reports.{reported, registersShown, drawnBy}
 use Rattle.packing.proofs.Parts.{put-middle}
 
--- the zeros with LXm, LXa and the phase, then the registers, the indirect registers and the marks
+-- the zeros with two bits, x and y, and the phase, then the registers, the indirect registers and the marks
 pub packed-parts :
-    (p : Processor) (m a : ℕ) (b1 b2 b3 : List ℕ) → length (p .registers) ≡ 8 → length (p .indirect) ≡ 8 → length (p .marks) ≡ 25
-    → m ≡ oneIf (p .lxm) → a ≡ oneIf (p .lxa)
+    (p : Processor) (m a x y : ℕ) (b1 b2 b3 : List ℕ) → length (p .registers) ≡ 8 → length (p .indirect) ≡ 8 → length (p .marks) ≡ 25
+    → m ≡ x → a ≡ y
     → b1 ≡ paste (replicate 16 0 ++ (m ∷ a ∷ p .phase ∷ []) ++ replicate 45 0) 0 (p .registers) 8
     → b2 ≡ paste b1 8 (p .indirect) 8 → b3 ≡ paste b2 19 (map oneIf (p .marks)) 25
-    → b3 ≡ packed p
-unfolding packed
-packed-parts p m a b1 b2 b3 lr li lm em ea e1 e2 e3 =
+    → b3 ≡ p .registers ++ p .indirect ++ (x ∷ y ∷ p .phase ∷ []) ++ map oneIf (p .marks) ++ replicate 20 0
+packed-parts p m a x y b1 b2 b3 lr li lm em ea e1 e2 e3 =
     let R : List ℕ = p .registers in
     let I : List ℕ = p .indirect in
     let B : List ℕ = m ∷ a ∷ p .phase ∷ [] in
@@ -39,6 +39,14 @@ packed-parts p m a b1 b2 b3 lr li lm em ea e1 e2 e3 =
     ∙ ap (λ (b : List ℕ). paste b 19 (map oneIf (p .marks)) 25) f2
     ∙ put-middle (R ++ I ++ B) (replicate 25 0) (replicate 20 0) (map oneIf (p .marks)) 19 25 l19 refl (length-map (p .marks) oneIf ∙ lm)
     ∙ rw (em, ea)
+
+-- the parts that are taken out, with the three bytes between them
+pub unpacked-parts :
+    (bytes r i : List ℕ) (marks : List Bool) → r ≡ take 8 bytes → i ≡ take 8 (drop 8 bytes) → marks ≡ map isOn (take 25 (drop 19 bytes))
+    → record { registers = r; indirect = i; lxm = isOn (getD bytes 16 0); lxa = isOn (getD bytes 17 0); phase = getD bytes 18 0; marks = marks }
+    ≡ unpacked bytes
+unfolding unpacked
+unpacked-parts bytes r i marks er ei em = rw (er, ei, em)
 
 -- what is shown before the marks, then the marks
 pub reported-parts :

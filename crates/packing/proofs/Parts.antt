@@ -23,24 +23,17 @@ module _ (start w : ℕ) (bytes : List ℕ) (fits : start + w ≤ length bytes) 
   pub length-marks : length (map isOn (part start w bytes)) ≡ w
   length-marks = length-map (part start w bytes) isOn ∙ length-part
 
-  part-at : (i : ℕ) → i < w → getD (part start w bytes) i 0 ≡ getD bytes (start + i) 0
+  pub part-at : (i : ℕ) → i < w → getD (part start w bytes) i 0 ≡ getD bytes (start + i) 0
   part-at i h = getD-take w (drop start bytes) i 0 h ∙ getD-drop start bytes i 0
 
-  -- a turn that takes out one element
-  pub part-set :
-      (xs : List ℕ) (i : ℕ) → take i xs ≡ take i (part start w bytes) → length xs ≡ w → i < w
-      → take (i + 1) (set xs i (getD bytes (start + i) 0)) ≡ take (i + 1) (part start w bytes)
-  part-set xs i q l h =
-      rw (← part-at i h) (copy-set (part start w bytes) xs i 0 q (omega arith) (omega (arith, length-part)))
+  pub mark-at : (i : ℕ) → i < w → getD (map isOn (part start w bytes)) i (isOn 0) ≡ isOn (getD bytes (start + i) 0)
+  mark-at i h = List·getD-map isOn (part start w bytes) i 0 ∙ ap isOn (part-at i h)
 
-  -- a turn that takes out one mark
-  pub mark-set :
-      (xs : List Bool) (i : ℕ) → take i xs ≡ take i (map isOn (part start w bytes)) → length xs ≡ w → i < w
-      → take (i + 1) (set xs i (isOn (getD bytes (start + i) 0))) ≡ take (i + 1) (map isOn (part start w bytes))
-  mark-set xs i q l h =
-      let e : isOn (getD bytes (start + i) 0) ≡ getD (map isOn (part start w bytes)) i (isOn 0) =
-      sym (List·getD-map isOn (part start w bytes) i 0 ∙ ap isOn (part-at i h)) in
-      rw e (copy-set (map isOn (part start w bytes)) xs i (isOn 0) q (omega arith) (omega (arith, length-marks)))
+-- a turn that takes out v, the next element of s, be it a byte or a mark
+pub taken-set :
+    {A : Type 0} (s xs : List A) (w i : ℕ) (d v : A) → length s ≡ w → getD s i d ≡ v → take i xs ≡ take i s → length xs ≡ w → i < w
+    → take (i + 1) (set xs i v) ≡ take (i + 1) s
+taken-set s xs w i d v ls e q l h = rw (← e) (copy-set s xs i d q (omega arith) (omega arith))
 
 -- a turn that puts in one element
 pub put-set :

@@ -5,7 +5,7 @@ use mathlib.Core.Path.{_≡_, refl, sym, ap, _∙_}
 use mathlib.Core.Bool.{Bool, true, false}
 use mathlib.Core.List.{List, [], _∷_, _++_, map, append-assoc}
 use native.Mathlib.Omega.{arith}
-use lib.ListN.{length, getD, take, drop, replicate, length-append, length-map}
+use lib.ListN.{length, getD, take, drop, length-append, length-map}
 use lib.Seq.{take-at, drop-at, drop-drop, getD-drop}
 use Rattle.basics.specs.Choice.{oneIf}
 use Rattle.processor.specs.declared.state.Processor.{Processor}
@@ -64,9 +64,7 @@ module _ (r i : List ℕ) (x y z : ℕ) (marks rest : List ℕ) (lr : length r �
 pub unpacked-packed : (p : Processor) → Sized p → unpacked (packed p) ≡ p
 unfolding packed
 unpacked-packed p s =
-    made (p .registers) (p .indirect) (oneIf (p .lxm)) (oneIf (p .lxa)) (p .phase) (map oneIf (p .marks)) (replicate 20 0)
-    (s .0) (s .1) (length-map (p .marks) oneIf ∙ s .2)
-    ∙ rw (on-flag (p .lxm), on-flag (p .lxa), on-one (p .marks))
+    rw (made _ _ _ _ _ _ _ (s .0) (s .1) (length-map (p .marks) oneIf ∙ s .2)) (simp (on-flag, on-one))
 
 -- any 64 bytes are a processor's
 pub unpacked-sized : (bytes : List ℕ) → length bytes ≡ 64 → Sized (unpacked bytes)

@@ -1,5 +1,5 @@
 use mathlib.Core.Path.{ap, _∙_}
-use Rattle.packing.specs.Layouts.{unpacked}
+use Rattle.packing.specs.Layouts.{packed, unpacked}
 use Rattle.packing.proofs.RoundTrip.{unpacked-packed}
 use borrow.Author.Needs.{length-unmapped, needs}
 use Rattle.packing.proofs.Layouts.{packed-parts}
@@ -40,6 +40,7 @@ put-marks-requires : tie.Need-put-marks-requires
 put-marks-requires c κs = search needs
 
 returns : tie.Need-returns
+unfolding packed
 returns c = let k = c .before in
     let e = k .before .before .before in
     let d = e .before .before .before in
@@ -51,7 +52,7 @@ returns c = let k = c .before in
     let li = length-unmapped _ (p .indirect) 8 (g .1 .0 .1 .0 .1) in
     let lm = length-unmapped _ (p .marks) 25 (g .1 .1 .1 .1 .1 .0 .1 .0 .1) in
     let b =
-    packed-parts p (f .before .flag .result) (f .flag2 .result) (d .put-eight .last .0) (e .put-eight2 .last .0) (k .put-marks .last .0) lr li lm
+    packed-parts p (f .before .flag .result) (f .flag2 .result) _ _ (d .put-eight .last .0) (e .put-eight2 .last .0) (k .put-marks .last .0) lr li lm
     (f .before .flag .ensures) (f .flag2 .ensures) (d .put-eight .ensures) (e .put-eight2 .ensures) (k .put-marks .ensures) in
     (b, ap unpacked b ∙ unpacked-packed p (lr, li, lm))
 

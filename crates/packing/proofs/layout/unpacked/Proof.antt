@@ -1,4 +1,4 @@
-use Rattle.packing.specs.Layouts.{unpacked}
+use Rattle.packing.proofs.Layouts.{unpacked-parts}
 use borrow.Author.Needs.{needs}
 use Rattle.packing.proofs.layout.unpacked.Statement.{statement}
 use Rattle.packing.proofs.layout.unpacked.Tie as tie
@@ -22,9 +22,8 @@ array-read-t17 : tie.Need-array-read-t17
 array-read-t17 c = search needs
 
 returns : tie.Need-returns
-unfolding unpacked
 returns c = let k = c .before in
-    rw (k .before .eight-from .ensures, k .eight-from2 .ensures, c .marks-from .ensures)
+    unpacked-parts _ _ _ _ (k .before .eight-from .ensures) (k .eight-from2 .ensures) (c .marks-from .ensures)
 
 pub unpacked-spec : {M : Type 1} → statement M
 unpacked-spec =

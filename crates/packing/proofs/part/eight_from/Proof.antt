@@ -1,9 +1,9 @@
 use lib.ListN.{length-set, length, take}
 use Rattle.basics.proofs.Filled.{copy-end}
-use Rattle.packing.proofs.Parts.{length-part, part-set, part}
+use Rattle.packing.proofs.Parts.{length-part, part-at, taken-set, part}
 use native.Mathlib.Omega.{arith}
 use mathlib.Core.Path.{_≡_, refl}
-use Prim.Native.Nat.{_≤_, _-_}
+use Prim.Native.Nat.{_≤_, _+_, _-_}
 use borrow.Author.Needs.{needs}
 use Rattle.packing.proofs.part.eight_from.Statement.{statement}
 use Rattle.packing.proofs.part.eight_from.Tie as tie
@@ -36,7 +36,8 @@ loop-again : tie.Need-loop-again Inv-loop μ-loop
 loop-again c = let l = c .before .loop in
     let a = c .before .before .args in
     let n : length (a .t1) ≡ 64 = search needs in
-    (omega arith, simp length-set (l .inv .1), part-set (a .start) 8 (a .t1) (omega arith) (l .eight) (l .i) (l .inv .2) (l .inv .1) (omega arith))
+    let f : a .start + 8 ≤ length (a .t1) = omega arith in
+    (omega arith, simp length-set (l .inv .1), taken-set (part (a .start) 8 (a .t1)) _ 8 (l .i) 0 _ (length-part _ _ _ f) (part-at _ _ _ f _ (omega arith)) (l .inv .2) (l .inv .1) (omega arith))
 
 returns : tie.Need-returns Inv-loop μ-loop
 returns c = let l = c .before .loop in

@@ -1,9 +1,10 @@
 use lib.ListN.{length-set, length, take}
 use Rattle.basics.proofs.Filled.{copy-end}
-use Rattle.packing.proofs.Parts.{length-marks, mark-set, part}
+use Rattle.packing.proofs.Parts.{length-marks, mark-at, taken-set, part}
 use native.Mathlib.Omega.{arith}
 use mathlib.Core.Path.{_≡_, refl}
-use Prim.Native.Nat.{_≤_, _-_}
+use Prim.Native.Nat.{_≤_, _+_, _-_}
+use mathlib.Core.Bool.{false}
 use mathlib.Core.List.{map}
 use Rattle.packing.specs.Layouts.{isOn}
 use borrow.Author.Needs.{needs}
@@ -38,7 +39,8 @@ loop-again : tie.Need-loop-again Inv-loop μ-loop
 loop-again c = let l = c .before .loop in
     let a = c .before .before .args in
     let n : length (a .t1) ≡ 64 = search needs in
-    (omega arith, simp length-set (l .inv .1), mark-set (a .start) 25 (a .t1) (omega arith) (l .marks) (l .r) (l .inv .2) (l .inv .1) (omega arith))
+    let f : a .start + 25 ≤ length (a .t1) = omega arith in
+    (omega arith, simp length-set (l .inv .1), taken-set (map isOn (part (a .start) 25 (a .t1))) _ 25 (l .r) false _ (length-marks _ _ _ f) (mark-at _ _ _ f _ (omega arith)) (l .inv .2) (l .inv .1) (omega arith))
 
 returns : tie.Need-returns Inv-loop μ-loop
 returns c = let l = c .before .loop in
