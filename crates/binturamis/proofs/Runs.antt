@@ -9,13 +9,12 @@ use mathlib.Core.Logic.{⊎-elim}
 use lib.Dec.{eqb}
 use borrow.Author.Tests.{eqb-true}
 use Rattle.basics.specs.Choice.{pick}
-use Rattle.basics.proofs.Choice.{or-cases}
+use Rattle.basics.proofs.Choice.{or-cases, pick-same}
 use Rattle.processor.specs.declared.state.Processor.{Processor}
 use Rattle.processor.specs.Sizes.{Sized}
 use Rattle.kept.specs.Orders.{isEarly, isLate}
 use Rattle.kept.specs.Runs.{Operation, write, read, turn, draw, World, first, step, run, done, registered}
 use Rattle.kept.proofs.Refusals.{refusal-leaves}
-use Rattle.kept.proofs.Walk.{pick-same}
 use Rattle.kept.proofs.Sizes.{step-sized, run-sized, power-up-sized}
 use Rattle.packing.specs.Layouts.{packed, unpacked}
 use Rattle.packing.proofs.RoundTrip.{unpacked-packed}

@@ -12,7 +12,7 @@ use lib.Seq.{getD-set-other, set-getD}
 use borrow.Author.Tests.{eqb-true, ne-eqb}
 use Rattle.basics.specs.Parts.{partOf}
 use Rattle.basics.specs.Choice.{pick}
-use Rattle.basics.proofs.Choice.{pick-known, pick-either}
+use Rattle.basics.proofs.Choice.{pick-known, pick-either, pick-same}
 use Rattle.basics.proofs.Parts.{table-at}
 use Rattle.address.specs.Places.{placeAt}
 use Rattle.address.specs.declared.triple.Triple.{Triple}
@@ -39,7 +39,7 @@ use Rattle.kept.specs.Runs.{Lent, own, other, Operation, write, read, tu
 use Rattle.kept.specs.Rules.{isShown}
 use Rattle.kept.proofs.Numbers.{number-first}
 use Rattle.kept.proofs.Refusals.{refusal-stays}
-use Rattle.kept.proofs.Walk.{pick-same, draw-known, KeptBy, noneBarred, write-keeps, read-keeps, turn-keeps, run-known}
+use Rattle.kept.proofs.Walk.{draw-known, KeptBy, noneBarred, write-keeps, read-keeps, turn-keeps, run-known}
 use Rattle.kept.proofs.Steps.{store-before, store-keeps, phase-before, phase-keeps}
 
 either-holds : (a b : Bool) → (not a && not b) ≡ false → (a ≡ true) ⊎ (b ≡ true)

@@ -6,6 +6,7 @@ use mathlib.Core.List.{List}
 use mathlib.Core.Logic.{_≢_}
 use lib.Dec.{eqb}
 use borrow.Author.Tests.{ne-eqb}
+use Rattle.basics.proofs.Choice.{pick-same}
 use Rattle.basics.specs.Bits.{bits}
 use Rattle.basics.specs.Choice.{pick}
 use Rattle.page.specs.Marks.{markedRows}
@@ -19,7 +20,7 @@ use Rattle.processor.specs.Draws.{DrawOutcome, drawnPage, drawn}
 use Rattle.kept.specs.Demands.{AnsweredInOrder}
 use Rattle.kept.specs.Orders.{firstOf, accessOrder, drawOrder, phaseOrder, isEarly, order, returned}
 use Rattle.kept.specs.Runs.{Operation, write, read, turn, draw, World, chipLent, lentOf, Reply, reply, replyTo, done}
-use Rattle.kept.proofs.Walk.{pick-same, Ends, write-known, read-known, turn-known, draw-known}
+use Rattle.kept.proofs.Walk.{Ends, write-known, read-known, turn-known, draw-known}
 
 -- the answer of an access or a phase change, and of a draw
 abbrev said : Outcome → Reply

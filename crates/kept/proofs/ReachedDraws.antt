@@ -12,8 +12,7 @@ use borrow.Author.Tests.{eq-eqb}
 use Rattle.basics.specs.Below.{countBelow, anyBelow}
 use Rattle.basics.specs.Choice.{oneIf}
 use Rattle.basics.specs.Parts.{joined}
-use Rattle.basics.proofs.Below.{count-at-most}
-use Rattle.basics.proofs.Choice.{lt-or-le}
+use Rattle.basics.proofs.Below.{count-some, count-less}
 use Rattle.basics.proofs.Parts.{table-at, length-table}
 use Rattle.address.specs.Boards.{memoryBytes}
 use Rattle.address.specs.Places.{placeOf}
@@ -141,28 +140,6 @@ unfolding zeros powerUp indirectWritten oct incrementedIf pointerOf placeOf canD
 marked-by-list r l =
     store-marks-exact (pointerOf false (after-draw .processor)) 8 (chip (cleared (withRegister (after-draw .processor) 0 0x30)) (zeros memoryBytes)) r l
     ∙ ap (λ (b : Bool). b || onList plainly (zeros memoryBytes) 0 r) (table-at (λ s. false) 25 r false l)
-
--- a count of some
-same : (i n : ℕ) → i < suc n → n ≤ i → i ≡ n
-same i n l h = omega (arith, l, h)
-
-one-at-most : (b : Bool) → oneIf b ≤ 1
-one-at-most true = omega arith
-one-at-most false = omega arith
-
-count-some : (f : ℕ → Bool) (n i : ℕ) → i < n → f i ≡ true → 0 < countBelow f n
-unfolding countBelow
-count-some f zero i l e = absurd (omega (arith, l))
-count-some f (suc n) i l e =
-    ⊎-elim (λ (h : i < n). omega (arith, count-some f n i h e))
-    (λ (h : n ≤ i). rw (ap f (sym (same i n l h)) ∙ e) (omega arith)) (lt-or-le i n)
-
-count-less : (f : ℕ → Bool) (n i : ℕ) → i < n → f i ≡ false → countBelow f n < n
-unfolding countBelow
-count-less f zero i l e = absurd (omega (arith, l))
-count-less f (suc n) i l e =
-    ⊎-elim (λ (h : i < n). omega (arith, count-less f n i h e, one-at-most (f n)))
-    (λ (h : n ≤ i). rw (ap f (sym (same i n l h)) ∙ e) (omega (arith, count-at-most f n))) (lt-or-le i n)
 
 -- the draw after it
 after-long : length (after-store .picture) ≡ pictureBytes columnBytes

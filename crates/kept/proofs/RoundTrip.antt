@@ -9,7 +9,7 @@ use native.Mathlib.Omega.{arith}
 use lib.Dec.{eqb}
 use lib.ListN.{length, getD, set, length-set}
 use lib.Seq.{getD-set-same, getD-set-other}
-use Rattle.basics.proofs.Choice.{pick-either}
+use Rattle.basics.proofs.Choice.{pick-either, not-false}
 use Rattle.basics.specs.Bits.{bits}
 use Rattle.address.specs.Triples.{legal}
 use Rattle.address.specs.declared.triple.Triple.{Triple}
@@ -31,7 +31,6 @@ use Rattle.kept.proofs.Quiet.{quiet-run}
 use Rattle.kept.proofs.Ran.{isNop, command-ran}
 use Rattle.kept.proofs.Sizes.{step-sized, run-sized, power-up-sized}
 use Rattle.kept.proofs.Stores.{stored-here, code-c, code-b, code-a}
-use Rattle.kept.proofs.Walk.{not-false}
 
 -- an increment leaves R0 to R3
 increment-keeps : (auxiliary : Bool) (p : Processor) (i : ℕ) → i < 4 → registerOf (incremented auxiliary p) i ≡ registerOf p i

@@ -2,15 +2,14 @@
 -- property that each part of an access keeps is kept by every access.
 -- Assumes nothing.
 use Prim.Native.Nat.{ℕ}
-use mathlib.Core.Path.{_≡_, refl, sym}
-use mathlib.Core.Bool.{Bool, true, false, not, false≢true}
+use mathlib.Core.Path.{_≡_, refl}
+use mathlib.Core.Bool.{Bool, true, false}
 use mathlib.Core.List.{List, [], _∷_}
 use mathlib.Core.Logic.{_≢_}
 use native.Mathlib.Omega.{arith}
 use lib.Dec.{eqb, leb}
 use lib.ListN.{length}
-use Rattle.basics.specs.Choice.{pick}
-use Rattle.basics.proofs.Choice.{pick-known, pick-either}
+use Rattle.basics.proofs.Choice.{pick-known, pick-either, not-false}
 use Rattle.basics.specs.Bits.{bits, isSet}
 use Rattle.address.specs.Boards.{boardDistricts, memoryBytes}
 use Rattle.address.specs.Triples.{legal}
@@ -134,15 +133,6 @@ pub record KeptBy (barred : Command → Bool) (K : Chip → Type 0) : Type 0 whe
   pub store :
       (c : Command) → isStore c ≡ true → barred c ≡ false → (t : Triple) → legal t ≡ true → (v : ℕ) (k : Chip) → K k → K (stored t v k)
   pub ind : (r : ℕ) → barred (Ind r false) ≡ false → (k : Chip) → K k → K (chip (indirectWritten (k .processor) r) (k .memory))
-
--- a choice between the same is it
-pub pick-same : {A : Type 0} (b : Bool) (x : A) → pick b x x ≡ x
-pick-same b x = pick-either (λ y. y ≡ x) b x x refl refl
-
--- a pointer that does not stray is legal
-pub not-false : (b : Bool) → not b ≡ false → b ≡ true
-not-false true e = refl
-not-false false e = absurd (false≢true (sym e))
 
 -- and so by every command that is not barred, and by every access that executes none that is
 module _ (barred : Command → Bool) (K : Chip → Type 0) (by : KeptBy barred K) where
