@@ -11,7 +11,7 @@ use Rattle.command.specs.Answers.{numberOf, valueOf, drawNumberOf, rowsOf}
 use Rattle.processor.specs.States.{Chip, chip}
 use Rattle.processor.specs.Access.{Outcome, outcomeOf}
 use Rattle.processor.specs.Draws.{drawOutcomeOf, drawn}
-use Rattle.packing.specs.Layouts.{packed, unpacked}
+use Rattle.packing.specs.Layouts.{unpacked}
 use Rattle.binturamis.specs.Calls.{word, isRefusal, bytesAfter, called, callOf, drawCalled, drawCallOf}
 
 -- of an access or a phase change, which has changed nothing with the numbers that pass

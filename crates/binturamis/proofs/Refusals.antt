@@ -1,18 +1,16 @@
 -- A refused call leaves what it was lent, and the 64 bytes, whatever they hold.
 -- Assumes nothing.
 use Prim.Native.Nat.{ℕ}
-use mathlib.Core.Path.{_≡_, refl, ap, sym, _∙_}
-use mathlib.Core.Bool.{Bool, true, false, not, false≢true}
+use mathlib.Core.Path.{_≡_, ap, sym, _∙_}
+use mathlib.Core.Bool.{true, false, false≢true}
 use mathlib.Core.Logic.{_≢_}
-use native.Mathlib.Omega.{arith}
-use lib.Dec.{eqb}
 use Rattle.packing.specs.Layouts.{unpacked}
 use Rattle.kept.specs.Orders.{isEarly}
-use Rattle.kept.specs.Runs.{Operation, write, read, turn, draw, World}
+use Rattle.kept.specs.Runs.{write, read, turn, draw, World}
 use Rattle.kept.proofs.Refusals.{refusal-leaves}
 use Rattle.binturamis.specs.Calls.{isRefusal}
 use Rattle.binturamis.specs.Promises.{RefusedCall}
-use Rattle.binturamis.specs.Runs.{Caller, calledBy}
+use Rattle.binturamis.specs.Runs.{Caller}
 
 -- a number that leaves things alone is not 0
 pub early-refuses : (n : ℕ) → isEarly n ≡ true → n ≢ 0

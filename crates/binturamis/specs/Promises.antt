@@ -5,7 +5,6 @@ use Prim.Native.Nat.{ℕ}
 use mathlib.Core.Path.{_≡_}
 use mathlib.Core.Bool.{Bool, true}
 use mathlib.Core.List.{List}
-use mathlib.Core.Logic.{_≢_}
 use Rattle.kept.specs.Orders.{isEarly}
 use Rattle.kept.specs.Runs.{Operation, write, read, turn, draw, first, run, done, lentOf, memoryLent, pictureLent}
 use Rattle.packing.specs.Layouts.{unpacked}

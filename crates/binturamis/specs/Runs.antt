@@ -4,7 +4,7 @@ use Prim.Native.Nat.{ℕ}
 use mathlib.Core.List.{List, [], _∷_}
 use Rattle.command.specs.Answers.{numberOf, drawNumberOf}
 use Rattle.processor.specs.States.{Chip, chip}
-use Rattle.processor.specs.Access.{Outcome, written, readOut, turned}
+use Rattle.processor.specs.Access.{written, readOut, turned}
 use Rattle.processor.specs.Draws.{DrawOutcome, drawn}
 use Rattle.kept.specs.Orders.{isEarly}
 use Rattle.kept.specs.Runs.{Lent, Operation, write, read, turn, draw, World, lentOf, memoryLent, pictureLent, memoryKept, pictureKept}

@@ -30,7 +30,7 @@ use Rattle.command.specs.Answers.{drawNumberOf}
 use Rattle.processor.specs.States.{Chip, chip, shownBy, shownOf, powerUp, registerOf, indirectWritten}
 use Rattle.processor.specs.Bytes.{stored}
 use Rattle.processor.specs.Access.{phased}
-use Rattle.processor.specs.Draws.{DrawOutcome, drawOutcome, drawnPage, drawn}
+use Rattle.processor.specs.Draws.{DrawOutcome, drawnPage, drawn}
 use Rattle.kept.specs.Fresh.{FreshOn, Fresh, FreshIn}
 use Rattle.kept.specs.Demands.{DrawFresh}
 use Rattle.kept.specs.Orders.{firstOf, order, isLate}

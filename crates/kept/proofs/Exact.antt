@@ -24,8 +24,8 @@ use Rattle.processor.specs.Access.{isUnlisted, isAstray, effect, Outcome, indir
 use Rattle.processor.specs.Draws.{DrawOutcome, drawnPage}
 use Rattle.kept.specs.Demands.{MarksExact}
 use Rattle.kept.specs.Quiet.{isMarker}
-use Rattle.kept.specs.Rules.{storeRule, codeRule, commandRule, accessRule, marksRow, clears}
-use Rattle.kept.specs.Runs.{Operation, write, read, turn, draw, World, lentOf, chipLent}
+use Rattle.kept.specs.Rules.{storeRule, codeRule, commandRule, accessRule, marksRow}
+use Rattle.kept.specs.Runs.{write, read, turn, draw, lentOf, chipLent}
 use Rattle.kept.proofs.Marks.{store-marks-exact, indirect-marks-exact, phase-marks-exact, draw-marks-exact, unmarked, store-marks, krf-marks, oct-marks}
 use Rattle.kept.proofs.Walk.{Ends, write-known, read-known, turn-known, draw-known, effect-keeps, commandIn, afterWrite}
 

@@ -23,7 +23,7 @@ use Rattle.page.specs.Inputs.{decoded, Slices, takenFrom, cellInput, rowInput}
 use Rattle.page.specs.declared.source.Source.{Source}
 use Rattle.page.specs.declared.source.Source.the-variants.{Rom, Block}
 use Rattle.page.proofs.Halves.{half-same}
-use Rattle.picture.specs.Rows.{painted, rowOf}
+use Rattle.picture.specs.Rows.{painted}
 use Rattle.reading.specs.Lists.{codePlace, codeHolds, rowHolds, isAt, sourceHolds, cellHolds, slicesHold, hasTall, aboveHolds, onList}
 use Rattle.kept.specs.Agreeing.{Agree, AgreeOnList, FrameLaw}
 

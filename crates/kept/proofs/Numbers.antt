@@ -1,25 +1,23 @@
 -- Demand 1: the number answered is that of the first condition, in the order of the rules, that holds, and the rules say what comes with it.
 -- Assumes nothing.
 use Prim.Native.Nat.{ℕ}
-use mathlib.Core.Path.{_≡_, refl, sym, ap, _∙_}
+use mathlib.Core.Path.{_≡_, refl, ap, _∙_}
 use mathlib.Core.List.{List}
 use mathlib.Core.Logic.{_≢_}
 use lib.Dec.{eqb}
-use borrow.Author.Tests.{ne-eqb}
 use Rattle.basics.proofs.Choice.{pick-same}
-use Rattle.basics.specs.Bits.{bits}
 use Rattle.basics.specs.Choice.{pick}
 use Rattle.page.specs.Marks.{markedRows}
 use Rattle.processor.specs.declared.state.Processor.{Processor}
 use Rattle.command.specs.declared.answer.Drawing.{Drawing}
 use Rattle.command.specs.declared.answer.Drawing.the-variants as drawing
 use Rattle.command.specs.Answers.{numberOf, valueOf, drawNumberOf, rowsOf}
-use Rattle.processor.specs.States.{Chip, registerRead}
+use Rattle.processor.specs.States.{Chip}
 use Rattle.processor.specs.Access.{Outcome}
 use Rattle.processor.specs.Draws.{DrawOutcome, drawnPage, drawn}
 use Rattle.kept.specs.Demands.{AnsweredInOrder}
-use Rattle.kept.specs.Orders.{firstOf, accessOrder, drawOrder, phaseOrder, isEarly, order, returned}
-use Rattle.kept.specs.Runs.{Operation, write, read, turn, draw, World, chipLent, lentOf, Reply, reply, replyTo, done}
+use Rattle.kept.specs.Orders.{firstOf, accessOrder, drawOrder, phaseOrder, isEarly, order}
+use Rattle.kept.specs.Runs.{Operation, write, read, turn, draw, World, chipLent, lentOf, Reply, reply, done}
 use Rattle.kept.proofs.Walk.{Ends, write-known, read-known, turn-known, draw-known}
 
 -- the answer of an access or a phase change, and of a draw

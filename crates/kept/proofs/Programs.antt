@@ -1,37 +1,27 @@
 -- Programs: registers written, a command executed, registers read.
 -- Assumes nothing.
-use Prim.Native.Nat.{ℕ, _+_, _<_, _≤_, _/_, _%_}
-use mathlib.Core.Path.{_≡_, refl, sym, ap, subst, _∙_}
-use mathlib.Core.Bool.{Bool, true, false, not}
+use Prim.Native.Nat.{ℕ, _+_, _<_, _≤_, _%_}
+use mathlib.Core.Path.{_≡_, refl, sym, ap, _∙_}
+use mathlib.Core.Bool.{false}
 use mathlib.Core.List.{List, [], _∷_, _++_}
 use native.Mathlib.Omega.{arith}
-use lib.Dec.{eqb}
-use lib.ListN.{length, getD, set, length-set}
+use lib.ListN.{length, set}
 use lib.Seq.{getD-set-same}
 use borrow.Author.Tests.{eq-eqb, ne-eqb}
-use Rattle.basics.specs.Choice.{pick}
 use Rattle.address.specs.Boards.{memoryBytes}
-use Rattle.address.specs.Pointers.{mainPointer, auxiliaryPointer}
-use Rattle.address.specs.Triples.{legal}
-use Rattle.address.specs.declared.triple.Triple.{Triple}
 use Rattle.command.specs.declared.Command.{Command}
-use Rattle.command.specs.declared.Command.the-variants.{Krf, Oct}
 use Rattle.command.specs.Commands.{commandOf}
-use Rattle.processor.specs.declared.state.Processor.{Processor}
 use Rattle.processor.specs.States.{chip, registerOf, registerRead, withRegister}
 use Rattle.processor.specs.Access.{Outcome, isUnlisted, isAstray, effect}
-use Rattle.processor.specs.Pointers.{pointerOf}
 use Rattle.processor.specs.Sizes.{Sized}
-use Rattle.kept.specs.Demands.{put, get, execute, krfCode, octCode, CodeRoundTrip, ByteRoundTrip}
+use Rattle.kept.specs.Demands.{put, get, execute}
 use Rattle.kept.specs.Orders.{firstOf, order}
 use Rattle.kept.specs.Quiet.{commandRun, Quiet}
-use Rattle.kept.specs.Runs.{own, Operation, World, first, step, run, registered, reply, Reply, replyTo, replies, accessDone, Done, done}
-use Rattle.kept.proofs.Memory.{run-long}
+use Rattle.kept.specs.Runs.{Operation, World, step, run, reply, Reply, replyTo, replies, accessDone}
 use Rattle.kept.proofs.Numbers.{answered-in-order, number-first}
 use Rattle.kept.proofs.Plain.{plain-written, plain-read}
 use Rattle.kept.proofs.Ran.{isNop, command-ran}
 use Rattle.kept.proofs.Refusals.{worldWith, worlds-same}
-use Rattle.kept.proofs.Sizes.{run-sized, power-up-sized}
 
 -- runs, quiet runs and replies, one after the other
 pub run-both : (one two : List Operation) (w : World) → run (one ++ two) w ≡ run two (run one w)

@@ -1,51 +1,29 @@
 -- Demand 1: each number from 0 to 9 is given, after a run of operations from power-up. The memory, the ROM and the picture are of zeros.
 -- Assumes nothing.
-use Prim.Native.Nat.{ℕ, zero, suc, _+_, _<_, _≤_}
+use Prim.Native.Nat.{ℕ, _<_}
 use mathlib.Core.Path.{_≡_, refl, sym, ap, subst, _∙_}
-use mathlib.Core.Bool.{Bool, true, false, not, _&&_, _||_, and-true}
+use mathlib.Core.Bool.{false}
 use mathlib.Core.List.{List, [], _∷_}
-use mathlib.Core.Logic.{_≢_, inl, inr}
+use mathlib.Core.Logic.{_≢_, inl}
 use native.Mathlib.Omega.{arith}
-use lib.Dec.{eqb}
-use lib.ListN.{length, replicate, length-replicate, set, length-set}
-use borrow.Author.Tests.{eq-eqb}
-use Rattle.basics.specs.Below.{countBelow, anyBelow}
-use Rattle.basics.specs.Choice.{oneIf}
-use Rattle.basics.specs.Parts.{joined}
-use Rattle.basics.proofs.Below.{count-at-most, count-step}
+use lib.ListN.{length, replicate, length-replicate, length-set}
 use Rattle.address.specs.Boards.{memoryBytes}
-use Rattle.address.specs.Places.{placeOf}
-use Rattle.address.specs.Rows.{rowY}
 use Rattle.address.specs.Triples.{legalIn, onPage, legalY}
-use Rattle.shown.specs.declared.Shown.{Shown}
 use Rattle.shown.specs.Lengths.{romBytes, columnBytes, pictureBytes}
-use Rattle.shown.specs.Refusals.{refused7, refused8, canDraw}
-use Rattle.page.specs.Codes.{codeOf}
-use Rattle.page.specs.Marks.{isMarked, markedRows, allMarked, noneMarked}
-use Rattle.picture.specs.Redraws.{redrawn}
-use Rattle.picture.proofs.Redrawing.{redrawn-long}
-use Rattle.reading.specs.Lists.{codePlace, codeHolds, rowHolds, cellHolds, slicesHold, hasTall, aboveHolds, onList}
-use Rattle.command.specs.declared.Command.{Command}
-use Rattle.command.specs.declared.Command.the-variants.{Ind, Oct}
+use Rattle.shown.specs.Refusals.{refused7, refused8}
+use Rattle.command.specs.declared.Command.the-variants.{Ind}
 use Rattle.command.specs.Commands.{commandOf}
-use Rattle.processor.specs.declared.state.Processor.{Processor}
-use Rattle.processor.specs.States.{chip, powerUp, shownOf, withRegister, withMarks, indirectWritten}
-use Rattle.processor.specs.Bytes.{oct}
-use Rattle.processor.specs.Draws.{DrawOutcome, drawnPage}
+use Rattle.processor.specs.States.{powerUp, withRegister, indirectWritten}
 use Rattle.processor.specs.Access.{indirect}
 use Rattle.processor.specs.Pointers.{pointerOf}
 use Rattle.processor.specs.Sizes.{Sized}
-use Rattle.cell.specs.Cells.{cellOf, bichromeOf, setOf}
-use Rattle.page.specs.Halves.{isTall}
-use Rattle.kept.specs.Demands.{Reached, Gives, EachNumberReached, Redraws, DrawsReached, put, execute}
-use Rattle.kept.specs.Orders.{firstOf, order}
-use Rattle.kept.specs.Premises.{Fair, FairRun}
-use Rattle.kept.specs.Runs.{own, other, Operation, write, read, turn, draw, World, first, step, run, done, Reply, reply, replyTo}
-use Rattle.kept.proofs.Numbers.{number-first, answered-in-order}
+use Rattle.kept.specs.Demands.{Gives, EachNumberReached, put, execute}
+use Rattle.kept.specs.Premises.{Fair}
+use Rattle.kept.specs.Runs.{own, other, Operation, write, turn, draw, World, first, step, run, done}
+use Rattle.kept.proofs.Numbers.{number-first}
 use Rattle.kept.proofs.Programs.{written-in, put-step, execute-step}
 use Rattle.kept.proofs.Refusals.{worldWith}
-use Rattle.kept.proofs.Sizes.{step-sized, run-sized, power-up-sized}
-use Rattle.kept.proofs.Walk.{draw-known}
+use Rattle.kept.proofs.Sizes.{power-up-sized}
 
 unfoldable pub zeros : ℕ → List ℕ
 zeros n = replicate n 0

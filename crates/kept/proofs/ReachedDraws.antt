@@ -1,16 +1,13 @@
 -- Demand 1: a draw of 25 rows, and one of some and not all, is accepted after a run of operations from power-up.
 -- Assumes nothing.
-use Prim.Native.Nat.{ℕ, zero, suc, _+_, _<_, _≤_}
+use Prim.Native.Nat.{ℕ, _<_}
 use mathlib.Core.Path.{_≡_, refl, sym, ap, subst, _∙_}
-use mathlib.Core.Bool.{Bool, true, false, not, _&&_, _||_, and-true}
+use mathlib.Core.Bool.{Bool, true, false, _||_}
 use mathlib.Core.List.{List, [], _∷_}
-use mathlib.Core.Logic.{⊎-elim, inl}
+use mathlib.Core.Logic.{inl}
 use native.Mathlib.Omega.{arith}
-use lib.Dec.{eqb}
-use lib.ListN.{length, replicate, length-replicate, set, length-set}
-use borrow.Author.Tests.{eq-eqb}
+use lib.ListN.{length, length-set}
 use Rattle.basics.specs.Below.{countBelow, anyBelow}
-use Rattle.basics.specs.Choice.{oneIf}
 use Rattle.basics.specs.Parts.{joined}
 use Rattle.basics.proofs.Below.{count-some, count-less}
 use Rattle.basics.proofs.Parts.{table-at, length-table}
@@ -22,32 +19,26 @@ use Rattle.shown.specs.declared.Shown.{Shown}
 use Rattle.shown.specs.Lengths.{romBytes, columnBytes, pictureBytes}
 use Rattle.shown.specs.Refusals.{refused7, refused8, canDraw}
 use Rattle.page.specs.Codes.{codeOf}
-use Rattle.page.specs.Marks.{isMarked, markedRows, allMarked, noneMarked}
+use Rattle.page.specs.Marks.{isMarked, markedRows, noneMarked}
 use Rattle.picture.specs.Redraws.{redrawn}
 use Rattle.picture.proofs.Redrawing.{redrawn-long}
 use Rattle.reading.specs.Lists.{codePlace, codeHolds, rowHolds, cellHolds, slicesHold, hasTall, aboveHolds, onList}
-use Rattle.command.specs.declared.Command.{Command}
 use Rattle.command.specs.declared.Command.the-variants.{Ind, Oct}
 use Rattle.command.specs.Commands.{commandOf}
-use Rattle.processor.specs.declared.state.Processor.{Processor}
 use Rattle.processor.specs.States.{chip, powerUp, shownOf, withRegister, withMarks, cleared, indirectWritten}
 use Rattle.processor.specs.Bytes.{oct, stored}
 use Rattle.processor.specs.Draws.{DrawOutcome, drawnPage}
-use Rattle.processor.specs.Access.{indirect}
 use Rattle.processor.specs.Pointers.{pointerOf, incrementedIf}
-use Rattle.processor.specs.Sizes.{Sized}
 use Rattle.cell.specs.Cells.{cellOf, bichromeOf, setOf}
 use Rattle.page.specs.Halves.{isTall}
-use Rattle.kept.specs.Demands.{Reached, Gives, EachNumberReached, Redraws, DrawsReached, put, execute}
+use Rattle.kept.specs.Demands.{Redraws, DrawsReached, put, execute}
 use Rattle.kept.specs.Orders.{firstOf, order}
-use Rattle.kept.specs.Premises.{Fair, FairRun}
-use Rattle.kept.specs.Runs.{own, other, Operation, write, read, turn, draw, World, first, step, run, done, Reply, reply, replyTo}
-use Rattle.kept.proofs.Numbers.{number-first, answered-in-order}
-use Rattle.kept.proofs.Programs.{written-in, put-step, execute-step}
+use Rattle.kept.specs.Runs.{own, Operation, draw, World, step, run, Reply, reply, replyTo}
+use Rattle.kept.proofs.Numbers.{answered-in-order}
+use Rattle.kept.proofs.Programs.{execute-step}
 use Rattle.kept.proofs.Marks.{store-marks-exact}
 use Rattle.kept.proofs.Reached.{zeros, long, picture, at-first, setting, set-up, setting-up}
 use Rattle.kept.proofs.Refusals.{worldWith}
-use Rattle.kept.proofs.Sizes.{step-sized, run-sized, power-up-sized}
 use Rattle.kept.proofs.Walk.{draw-known}
 
 -- what is shown with ROR 8: row 0 is Y 0 and row 1 is Y 8

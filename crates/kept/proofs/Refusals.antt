@@ -2,23 +2,21 @@
 -- changed.
 -- Assumes nothing.
 use Prim.Native.Nat.{ℕ}
-use mathlib.Core.Path.{_≡_, refl, sym, ap, _∙_}
-use mathlib.Core.Bool.{Bool, true, false}
+use mathlib.Core.Path.{_≡_, refl, sym, _∙_}
 use mathlib.Core.List.{List}
 use mathlib.Core.Logic.{_≢_}
-use lib.Dec.{eqb}
 use borrow.Author.Tests.{ne-eqb}
 use Rattle.basics.proofs.Choice.{pick-same}
 use Rattle.basics.specs.Choice.{pick}
 use Rattle.processor.specs.declared.state.Processor.{Processor}
 use Rattle.command.specs.Answers.{numberOf, drawNumberOf}
-use Rattle.processor.specs.States.{Chip, chip}
+use Rattle.processor.specs.States.{Chip}
 use Rattle.processor.specs.Access.{Outcome, turned}
 use Rattle.processor.specs.Draws.{DrawOutcome, drawnPage, drawn}
 use Rattle.kept.specs.Demands.{RefusalLeaves}
 use Rattle.kept.specs.Orders.{isLate}
 use Rattle.kept.specs.Runs.{Lent, own, other, Operation, write, read, turn, draw, World, done, lentOf, memoryLent, pictureLent, memoryKept, pictureKept, registered, chipLent, step}
-use Rattle.kept.proofs.Walk.{Ends, afterWrite, write-known, read-known, turn-known, draw-known}
+use Rattle.kept.proofs.Walk.{Ends, write-known, read-known, turn-known, draw-known}
 
 -- k is what there was, and p the state after the register access itself
 abbrev Leaves : Chip → Processor → Outcome → Type 0

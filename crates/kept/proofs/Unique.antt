@@ -2,13 +2,10 @@
 -- that its result and the memory after it make the outcome of the definition, and that of a draw likewise with the picture; two results
 -- that do so for the same input are the same.
 -- Assumes nothing.
-use Prim.Native.Nat.{ℕ}
-use mathlib.Core.Path.{_≡_, sym, ap, _∙_}
-use mathlib.Core.List.{List}
+use mathlib.Core.Path.{sym, ap, _∙_}
 use Rattle.processor.specs.declared.state.Processor.{Processor}
 use Rattle.command.specs.declared.answer.Answer.{Answer}
 use Rattle.processor.specs.declared.execute.Answered.{Answered}
-use Rattle.processor.specs.declared.draw.Drawn.{Drawn}
 use Rattle.processor.specs.Access.{Outcome}
 use Rattle.processor.specs.Draws.{DrawOutcome, drawnWith}
 use Rattle.kept.specs.Demands.{OneAccess, OneDraw}
