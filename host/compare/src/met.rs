@@ -29,12 +29,15 @@ pub struct Met {
     rows: [usize; 26],
     /// Accesses that changed a byte of the memory.
     pub stores: usize,
+    /// Draws of every row into another picture than the kept one.
+    pub other_pictures: usize,
 }
 
 impl Met {
     pub fn look(&mut self, step: &Step) {
         let (asked, report) = (step.asked, &step.report);
         self.stores += usize::from(step.stored);
+        self.other_pictures += usize::from(step.other_picture);
         self.numbers[kind_of(asked)][usize::from(report.number)] += 1;
         self.lx[0] += usize::from(report.lxm);
         self.lx[1] += usize::from(report.lxa);
@@ -95,6 +98,7 @@ impl fmt::Display for Met {
         writeln!(to, "left with LXm, LXa set: {:?} times", self.lx)?;
         writeln!(to, "left in phase 0, 1: {:?} times", self.phases)?;
         writeln!(to, "accepted draws of 0 to 25 rows: {:?}", self.rows)?;
-        write!(to, "accesses that changed a byte: {}", self.stores)
+        writeln!(to, "accesses that changed a byte: {}", self.stores)?;
+        write!(to, "draws into another picture: {}", self.other_pictures)
     }
 }

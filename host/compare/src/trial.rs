@@ -5,7 +5,7 @@ use std::collections::VecDeque;
 
 use second::random::Random;
 use second::sequence::Sequence;
-use second::MEMORY;
+use second::{Operation, MEMORY, PICTURE, ROWS};
 
 use crate::asked::Asked;
 use crate::lengths::{Lengths, SPARE};
@@ -31,6 +31,9 @@ pub struct Step {
     pub report: Report,
     /// Whether a byte of the memory is another than before.
     pub stored: bool,
+    /// Whether it is a draw of every row, for which the library was lent another picture than the
+    /// one that was kept.
+    pub other_picture: bool,
 }
 
 impl Trial {
@@ -50,6 +53,10 @@ impl Trial {
 
     pub fn step(&mut self) -> Step {
         let asked = self.asked();
+        let other_picture = self.draws_every_row(asked) && self.random.one_in(2);
+        if other_picture {
+            self.lend_other_picture();
+        }
         let before = self.pair.second.memory.clone();
         let report = self.pair.apply(asked);
         let stored = self.pair.second.memory != before;
@@ -59,7 +66,21 @@ impl Trial {
             asked,
             report,
             stored,
+            other_picture,
         }
+    }
+
+    /// An accepted draw with every row marked.
+    fn draws_every_row(&self, asked: Asked) -> bool {
+        asked.operation == Operation::Draw
+            && self.pair.second.processor.marks == [true; ROWS]
+            && self.pair.second.clone().apply(asked).number == 0
+    }
+
+    /// Any bytes in place of the library's picture, of which a draw of every row leaves none.
+    fn lend_other_picture(&mut self) {
+        let other = self.random.bytes(PICTURE);
+        self.pair.library.picture[..PICTURE].copy_from_slice(&other);
     }
 
     /// Most often the sequence's next operation with the right lengths. Unplanned ones come before

@@ -22,4 +22,6 @@ fn every_operation_is_the_second_programs() {
     assert!(met.stores > 10_000, "{} stores", met.stores);
     let partial = met.partial_draws();
     assert!(partial > 1_000, "{partial} draws of some rows");
+    let others = met.other_pictures;
+    assert!(others > 300, "{others} draws into another picture");
 }
