@@ -9,7 +9,8 @@ use native.Mathlib.Omega.{arith}
 use lib.Dec.{eqb}
 use lib.ListN.{length, getD, set, length-set}
 use lib.Seq.{getD-set-same, getD-set-other}
-use Rattle.basics.proofs.Choice.{pick-either, not-false}
+use borrow.Author.Tests.{not-false}
+use Rattle.basics.proofs.Choice.{pick-either}
 use Rattle.basics.specs.Bits.{bits}
 use Rattle.address.specs.Triples.{legal}
 use Rattle.address.specs.declared.triple.Triple.{Triple}

@@ -9,7 +9,8 @@ use mathlib.Core.Logic.{_≢_}
 use native.Mathlib.Omega.{arith}
 use lib.Dec.{eqb, leb}
 use lib.ListN.{length}
-use Rattle.basics.proofs.Choice.{pick-known, pick-either, not-false}
+use borrow.Author.Tests.{not-false}
+use Rattle.basics.proofs.Choice.{pick-known, pick-either}
 use Rattle.basics.specs.Bits.{bits, isSet}
 use Rattle.address.specs.Boards.{boardDistricts, memoryBytes}
 use Rattle.address.specs.Triples.{legal}

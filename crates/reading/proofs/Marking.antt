@@ -9,7 +9,7 @@ use lib.Seq.{getD-set-other, ext-getD}
 use native.Mathlib.Omega.{arith}
 use native.Mathlib.Numerals.{add-one}
 use lib.Dec.{eqb}
-use borrow.Author.Tests.{eq-eqb, ne-eqb}
+use borrow.Author.Tests.{eq-eqb, ne-eqb, not-false}
 use lib.ListN.{length, getD, take, set, length-set}
 use Rattle.basics.specs.Below.{anyBelow, endBelow}
 use Rattle.basics.specs.Parts.{table, joined}
@@ -33,7 +33,7 @@ use Rattle.reading.specs.declared.key.Keys.{Keys}
 use Rattle.reading.specs.Lists.{rowHolds, cellHolds, slicesHold, hasTall, aboveHolds, onList}
 use Rattle.reading.specs.Marks.{storeMarks, flashIn, phaseMarks}
 use Rattle.reading.specs.HowAsked.{keysOf, keyed, codeBlock, rowAt, isUnmarked}
-use Rattle.reading.proofs.Tests.{not-false, marked-first}
+use Rattle.reading.proofs.Tests.{marked-first}
 use Rattle.reading.proofs.Characters.{keyed-cell}
 use Rattle.reading.proofs.Places.{own-bytes, row-at}
 

@@ -8,7 +8,7 @@ use mathlib.Core.Logic.{⊎-elim}
 use native.Mathlib.Omega.{arith}
 use lib.Dec.{ltb, eqb}
 use lib.ListN.{getD}
-use borrow.Author.Tests.{ne-eqb, eqb-true}
+use borrow.Author.Tests.{ne-eqb, eqb-true, not-false}
 use Rattle.basics.specs.Below.{anyBelow}
 use Rattle.basics.proofs.Below.{any-not}
 use Rattle.basics.proofs.Choice.{lt-or-le, eq-or-ne, or-none, or-neither}
@@ -22,7 +22,7 @@ use Rattle.page.specs.Halves.{isTall}
 use Rattle.page.specs.Inputs.{flashes}
 use Rattle.reading.specs.declared.key.Keys.{Keys}
 use Rattle.reading.specs.HowAsked.{isSource, showsCharacter, fromBlock, keyed}
-use Rattle.reading.proofs.Tests.{not-false, any-never}
+use Rattle.reading.proofs.Tests.{any-never}
 
 -- a stretch that crosses from column 31 to column 32 has two starts; another has one
 module _ (first i : ℕ) (column : first + i < 40) (side : first % 32 + i < 32) where

@@ -2,7 +2,7 @@
 -- Assumes nothing.
 use Prim.Native.Nat.{ℕ, zero, suc, _+_, _<_}
 use mathlib.Core.Path.{_≡_, refl, sym, ap, ap₂, _∙_}
-use mathlib.Core.Bool.{Bool, true, false, not, _||_, or-false, or-assoc}
+use mathlib.Core.Bool.{Bool, true, false, _||_, or-false, or-assoc}
 use native.Mathlib.Omega.{arith}
 use Rattle.basics.specs.Below.{anyBelow}
 use Rattle.basics.proofs.Below.{any-same}
@@ -12,10 +12,6 @@ pub together : (a b : Bool) → (a ≡ true → b ≡ true) → (b ≡ true → 
 together true b f g = sym (f refl)
 together false true f g = g refl
 together false false f g = refl
-
-pub not-false : (a : Bool) → not a ≡ false → a ≡ true
-not-false true e = refl
-not-false false e = sym e
 
 -- a row's mark: what the code asks first, and what the list names first
 pub marked-first : (mark own slices above : Bool) → ((mark || (own || above)) || slices) ≡ (mark || (own || (slices || above)))
