@@ -1,6 +1,7 @@
--- What is claimed: the three demands as statements, in their order. Nothing is proved here; each is the type of the theorem of that name, in
--- small letters with hyphens, in kept/proofs. Operations, what they are lent, and runs are in Runs; the refusals and their order
--- in Orders; the premises of demand 3 in Premises; what stores in Quiet; what marks in Rules.
+-- What is claimed: the three demands as statements, in their order, each followed by what it comes to, Demand1 to Demand3. Nothing is proved
+-- here: each is the type of a theorem of the same name, in small letters with hyphens, and proofs/Demands has all three together.
+-- Operations, what they are lent, and runs are in Runs; the refusals and their order in Orders; the premises of demand 3 in Premises; what
+-- stores in Quiet; what marks in Rules.
 -- Assumes nothing.
 use Prim.Native.Nat.{ℕ, _+_, _*_, _<_, _≤_}
 use mathlib.Core.Path.{_≡_}
@@ -75,6 +76,9 @@ OneAccess = (r s : Answered) (m n : List ℕ) (o : Outcome) → outcomeOf r m �
 abbrev pub OneDraw : Type 0
 OneDraw = (r s : Drawn) (v w : List ℕ) (o : DrawOutcome) → drawOutcomeOf r v ≡ o → drawOutcomeOf s w ≡ o → (r ≡ s) × (v ≡ w)
 
+abbrev pub Demand1 : Type 0
+Demand1 = AnsweredInOrder × RefusalLeaves × EachNumberReached × DrawsReached × OneAccess × OneDraw
+
 -- 2. Registers, commands, addresses and each pixel are what the rules say: that is in the contracts, by the definitions of the other crates.
 -- Three code bytes written at a legal pointer, and read there before another store, are the same three.
 
@@ -147,6 +151,9 @@ abbrev pub UnusedStay : Type 0
 UnusedStay =
     (os : List Operation) (w : World) (z i : ℕ) → 40 ≤ i → i < 64 → byteAt (run os w .memory) (1024 * z + i) ≡ byteAt (w .memory) (1024 * z + i)
 
+abbrev pub Demand2 : Type 0
+Demand2 = CodeRoundTrip × ByteRoundTrip × CodeKept × ByteKept × UnusedStay
+
 -- 3. From power-up, over any sequence of accesses, phase changes and draws, the picture kept by redrawing marked rows equals, after each
 -- accepted draw, the picture drawn afresh from the present memory, registers, character ROM and phase. A row is marked exactly when the rules
 -- say so, and the reported number of redrawn rows is the number marked.
@@ -165,4 +172,6 @@ MarksExact =
     (o : Operation) (w : World) (r : ℕ) → r < 25 →
     isMarked (step o w .processor .marks) r ≡ ((isMarked (w .processor .marks) r && not (clears o w)) || marksRow o w r)
 
--- the number of rows that a draw reports is the number marked: in AnsweredInOrder
+-- (the number of rows that a draw reports is the number marked: that is in AnsweredInOrder)
+abbrev pub Demand3 : Type 0
+Demand3 = DrawFresh × MarksExact × AnsweredInOrder
