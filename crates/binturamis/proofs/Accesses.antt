@@ -78,8 +78,8 @@ module _ (address v : ℕ) (m bytes : List ℕ) (w : ℕ)
   ends : (p : Processor) → Ends address 0 before p Early
   ends p =
       record {
-        wrong-memory = λ l. let one = rw l at is in ((λ n. rw one), (λ z. absurd (omega (arith, one, z))));
-        wrong-address = λ l a. let two = rw (l, a) at is in ((λ n. rw two), (λ z. absurd (omega (arith, two, z))));
+        wrong-memory = λ l. let one = rw l at is in ((λ n. rw one), (λ z. absurd (omega arith)));
+        wrong-address = λ l a. let two = rw (l, a) at is in ((λ n. rw two), (λ z. absurd (omega arith)));
         not-executed = λ l a x. ((λ n. absurd (n (rw (l, a) at is))), (λ q. refl));
         not-listed = λ l a x u. ((λ n. absurd (n (rw (l, a) at is))), (λ q. refl));
         bad-pointer = λ l a x u s. ((λ n. absurd (n (rw (l, a) at is))), (λ q. refl));

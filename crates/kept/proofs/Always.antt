@@ -155,11 +155,11 @@ module _ (p : Processor) (m rom picture : List ℕ) (f : Fresh p m rom picture) 
 
 -- every row marked: any picture will do
 marked-any : (w : World) → EveryRowMarked w → (picture : List ℕ) → Fresh (w .processor) (w .memory) (w .rom) picture
-marked-any w all picture r l e = absurd (false≢true (sym e ∙ all r (omega (arith, l))))
+marked-any w all picture r l e = absurd (false≢true (sym e ∙ all r (omega arith)))
 
 -- what is lent with a wrong length is refused, and then nothing has changed
 wrong-access : (o : Operation) (w : World) → firstOf (order o w) ≡ 1 → step o w ≡ w
-wrong-access o w e = let one = number-first o w ∙ e in refusal-stays o w (λ z. absurd (omega (arith, one, z))) (rw one)
+wrong-access o w e = let one = number-first o w ∙ e in refusal-stays o w (λ z. absurd (omega arith)) (rw one)
 
 refused-draw : (x y z : Lent) (w : World) → firstOf (order (draw x y z) w) ≢ 0 → step (draw x y z) w ≡ w
 refused-draw x y z w n = refusal-stays (draw x y z) w (λ e. n (sym (number-first (draw x y z) w) ∙ e)) (pick-same (isLate (done (draw x y z) w .number)) (w .processor))

@@ -63,5 +63,5 @@ unused z i a b t g e = place-gap (t .x) (t .y) (t .z) (legal-page _ t g) (rw (�
 pub unused-stay : UnusedStay
 unused-stay os w z i a b =
     let p = 1024 * z + i in
-    run-keeps (λ m. byteAt m p ≡ byteAt (w .memory) p) (λ m t v g h. getD-set-other m (placeAt t) p v 0 (unused z i (omega (arith, a)) (omega (arith, b)) t g) ∙ h)
+    run-keeps (λ m. byteAt m p ≡ byteAt (w .memory) p) (λ m t v g h. getD-set-other m (placeAt t) p v 0 (unused z i (omega arith) (omega arith) t g) ∙ h)
     os w refl

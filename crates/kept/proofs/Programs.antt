@@ -1,7 +1,7 @@
 -- Programs: registers written, a command executed, registers read.
 -- Assumes nothing.
 use Prim.Native.Nat.{ℕ, _+_, _<_, _≤_, _%_}
-use mathlib.Core.Path.{_≡_, refl, sym, ap, _∙_}
+use mathlib.Core.Path.{_≡_, refl, ap, _∙_}
 use mathlib.Core.Bool.{false}
 use mathlib.Core.List.{List, [], _∷_, _++_}
 use native.Mathlib.Omega.{arith}
@@ -11,7 +11,7 @@ use borrow.Author.Tests.{eq-eqb, ne-eqb}
 use Rattle.address.specs.Boards.{memoryBytes}
 use Rattle.command.specs.declared.Command.{Command}
 use Rattle.command.specs.Commands.{commandOf}
-use Rattle.processor.specs.States.{chip, registerOf, registerRead, withRegister}
+use Rattle.processor.specs.States.{chip, registerOf, registerRead, withRegister, withRegisters}
 use Rattle.processor.specs.Access.{Outcome, isUnlisted, isAstray, effect}
 use Rattle.processor.specs.Sizes.{Sized}
 use Rattle.kept.specs.Demands.{put, get, execute}
@@ -32,7 +32,7 @@ pub quiet-both : (one two : List Operation) (w : World) → Quiet one w → Quie
 quiet-both [] two w q r = r
 quiet-both (o ∷ one) two w q r = (q .0, quiet-both one two (step o w) (q .1) r)
 
-replies-both : (one two : List Operation) (w : World) → replies (one ++ two) w ≡ replies one w ++ replies two (run one w)
+pub replies-both : (one two : List Operation) (w : World) → replies (one ++ two) w ≡ replies one w ++ replies two (run one w)
 replies-both [] two w = refl
 replies-both (o ∷ one) two w = ap (λ (l : List Reply). replyTo o w ∷ l) (replies-both one two (step o w))
 
@@ -53,26 +53,26 @@ abbrev said : World → Outcome → Reply
 said w o = reply (accessDone o w .number) (accessDone o w .value)
 
 low : (n : ℕ) → n < 8 → (0x20 + n) % 8 ≡ n
-low n l = omega (arith, l)
+low n l = omega arith
 
 module _ (w : World) (whole : length (w .memory) ≡ memoryBytes) where
   pub put-step : (n v : ℕ) → n < 8 → step (put n v) w ≡ written-in w n v
   put-step n v l =
-      ap (stepped w) (plain-written (0x20 + n) (w .memory) whole (omega (arith, l)) v (w .processor))
+      ap (stepped w) (plain-written (0x20 + n) (w .memory) whole (omega arith) v (w .processor))
       ∙ ap (λ (i : ℕ). written-in w i v) (low n l)
 
   pub put-reply : (n v : ℕ) → n < 8 → replyTo (put n v) w ≡ reply 0 0
-  put-reply n v l = ap (said w) (plain-written (0x20 + n) (w .memory) whole (omega (arith, l)) v (w .processor))
+  put-reply n v l = ap (said w) (plain-written (0x20 + n) (w .memory) whole (omega arith) v (w .processor))
 
   pub get-step : (n : ℕ) → n < 8 → step (get n) w ≡ w
-  get-step n l = ap (stepped w) (plain-read (0x20 + n) (w .memory) whole (omega (arith, l)) (w .processor))
+  get-step n l = ap (stepped w) (plain-read (0x20 + n) (w .memory) whole (omega arith) (w .processor))
 
   pub get-reply : (n : ℕ) → 1 ≤ n → n < 8 → replyTo (get n) w ≡ reply 0 (registerOf (w .processor) n)
   unfolding registerRead
   get-reply n a l =
-      ap (said w) (plain-read (0x20 + n) (w .memory) whole (omega (arith, l)) (w .processor))
+      ap (said w) (plain-read (0x20 + n) (w .memory) whole (omega arith) (w .processor))
       ∙ ap (λ (i : ℕ). reply 0 (registerRead (w .processor) i)) (low n l)
-      ∙ rw (ne-eqb n 0 (λ e. omega (arith, a, e)))
+      ∙ rw (ne-eqb n 0 (λ e. omega arith))
 
 -- a command written to R0 and executed
 module _ (w : World) (whole : length (w .memory) ≡ memoryBytes) (s : Sized (w .processor)) (code : ℕ) where
@@ -100,23 +100,53 @@ module _ (w : World) (whole : length (w .memory) ≡ memoryBytes) (s : Sized (w 
 pub eight :
     (P : List ℕ → Type 0) → ((a b c d e f g h : ℕ) → P (a ∷ b ∷ c ∷ d ∷ e ∷ f ∷ g ∷ h ∷ [])) → (l : List ℕ) → length l ≡ 8 → P l
 eight P all (a ∷ b ∷ c ∷ d ∷ e ∷ f ∷ g ∷ h ∷ []) q = all a b c d e f g h
-eight P all [] q = absurd (omega (arith, q))
-eight P all (a ∷ []) q = absurd (omega (arith, q))
-eight P all (a ∷ b ∷ []) q = absurd (omega (arith, q))
-eight P all (a ∷ b ∷ c ∷ []) q = absurd (omega (arith, q))
-eight P all (a ∷ b ∷ c ∷ d ∷ []) q = absurd (omega (arith, q))
-eight P all (a ∷ b ∷ c ∷ d ∷ e ∷ []) q = absurd (omega (arith, q))
-eight P all (a ∷ b ∷ c ∷ d ∷ e ∷ f ∷ []) q = absurd (omega (arith, q))
-eight P all (a ∷ b ∷ c ∷ d ∷ e ∷ f ∷ g ∷ []) q = absurd (omega (arith, q))
-eight P all (a ∷ b ∷ c ∷ d ∷ e ∷ f ∷ g ∷ h ∷ i ∷ l) q = absurd (omega (arith, q))
+eight P all [] q = absurd (omega arith)
+eight P all (a ∷ []) q = absurd (omega arith)
+eight P all (a ∷ b ∷ []) q = absurd (omega arith)
+eight P all (a ∷ b ∷ c ∷ []) q = absurd (omega arith)
+eight P all (a ∷ b ∷ c ∷ d ∷ []) q = absurd (omega arith)
+eight P all (a ∷ b ∷ c ∷ d ∷ e ∷ []) q = absurd (omega arith)
+eight P all (a ∷ b ∷ c ∷ d ∷ e ∷ f ∷ []) q = absurd (omega arith)
+eight P all (a ∷ b ∷ c ∷ d ∷ e ∷ f ∷ g ∷ []) q = absurd (omega arith)
+eight P all (a ∷ b ∷ c ∷ d ∷ e ∷ f ∷ g ∷ h ∷ i ∷ l) q = absurd (omega arith)
 
--- pointers set, an operation that reads, and reads of registers after it
-pub trip-replies :
-    (pointers : List Operation) (reading : Operation) (gets : List Operation) (w u : World) (set got : List Reply) → u ≡ run pointers w →
-    replies pointers w ≡ set → replyTo reading u ≡ reply 0 0 → replies gets (step reading u) ≡ got →
-    replies (pointers ++ reading ∷ gets) w ≡ set ++ reply 0 0 ∷ got
-trip-replies pointers reading gets w u set got e es er eg =
-    replies-both pointers (reading ∷ gets) w
-    ∙ ap (λ (l : List Reply). l ++ replies (reading ∷ gets) (run pointers w)) es
-    ∙ ap (λ (v : World). set ++ replies (reading ∷ gets) v) (sym e)
-    ∙ ap (λ (l : List Reply). set ++ l) (replies-on reading gets u (step reading u) (reply 0 0) got er refl eg)
+-- values written to registers, one after the other
+pub record Put : Type 0 where
+  pub register : ℕ
+  pub value : ℕ
+
+abbrev pub to : ℕ → ℕ → Put
+to n v = record { register = n; value = v }
+
+abbrev pub puts : List Put → List Operation
+puts [] = []
+puts (p ∷ ps) = put (p .register) (p .value) ∷ puts ps
+
+-- each to one of the eight
+abbrev pub Named : List Put → Type 0
+Named [] = Unit {0}
+Named (p ∷ ps) = (p .register < 8) × Named ps
+
+-- the registers after them, and what is replied to them
+abbrev pub putInto : List Put → List ℕ → List ℕ
+putInto [] l = l
+putInto (p ∷ ps) l = putInto ps (set l (p .register) (p .value))
+
+abbrev pub accepted : List Put → List Reply
+accepted [] = []
+accepted (p ∷ ps) = reply 0 0 ∷ accepted ps
+
+pub puts-set :
+    (ps : List Put) → Named ps → (w : World) → length (w .memory) ≡ memoryBytes →
+    run (puts ps) w ≡ worldWith w (withRegisters (w .processor) (putInto ps (w .processor .registers))) (w .memory) (w .picture)
+puts-set [] named w whole = refl
+puts-set (p ∷ ps) named w whole =
+    ap (run (puts ps)) (put-step w whole (p .register) (p .value) (named .0)) ∙ puts-set ps (named .1) (written-in w (p .register) (p .value)) whole
+
+pub puts-replies : (ps : List Put) → Named ps → (w : World) → length (w .memory) ≡ memoryBytes → replies (puts ps) w ≡ accepted ps
+puts-replies [] named w whole = refl
+puts-replies (p ∷ ps) named w whole =
+    let n = p .register in
+    let v = p .value in
+    replies-on (put n v) (puts ps) w (written-in w n v) _ _ (put-reply w whole n v (named .0)) (put-step w whole n v (named .0))
+    (puts-replies ps (named .1) (written-in w n v) whole)

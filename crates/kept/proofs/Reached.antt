@@ -49,7 +49,7 @@ at-once o n g e =
 
 -- no list is as long as a memory, a ROM or a picture
 none-long : (n : ℕ) → 0 < n → length {A = ℕ} [] ≢ n
-none-long n l e = omega (arith, l, e)
+none-long n l e = omega arith
 
 gives-0 : Gives 0
 unfolding powerUp commandOf

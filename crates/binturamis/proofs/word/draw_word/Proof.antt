@@ -22,7 +22,7 @@ add-result : tie.Need-add-result
 add-result c = search needs
 
 returns : tie.Need-returns
-returns c = omega (arith, c .before .number .ensures, c .rows .ensures)
+returns c = omega arith
 
 pub draw-word-spec : {M : Type 1} → statement M
 draw-word-spec =

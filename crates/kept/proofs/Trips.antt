@@ -1,0 +1,76 @@
+-- The frame of a round trip: what is stored, and read again later.
+-- Assumes nothing.
+use Prim.Native.Nat.{ℕ}
+use mathlib.Core.Path.{_≡_, refl, sym, ap, _∙_}
+use mathlib.Core.List.{List, [], _∷_, _++_}
+use lib.ListN.{length}
+use Rattle.address.specs.Boards.{memoryBytes}
+use Rattle.processor.specs.States.{withRegisters}
+use Rattle.processor.specs.Sizes.{Sized}
+use Rattle.kept.specs.Demands.{execute}
+use Rattle.kept.specs.Runs.{Operation, World, step, run, reply, Reply, replyTo, replies}
+use Rattle.kept.proofs.Memory.{run-long}
+use Rattle.kept.proofs.Programs.{run-both, replies-both, replies-on, Put, puts, Named, putInto, accepted, puts-set, puts-replies}
+use Rattle.kept.proofs.Sizes.{run-sized}
+
+-- a trip: from a world that is ready, a command that stores; operations between; pointers set back; a command that reads
+pub record Trip : Type 0 where
+  pub ready : World
+  pub whole : length (ready .memory) ≡ memoryBytes
+  pub sized : Sized (ready .processor)
+  pub store : ℕ
+  pub between : List Operation
+  pub pointers : List Put
+  pub named : Named pointers
+  pub load : ℕ
+
+module _ (t : Trip) where
+  abbrev pub storing : Operation
+  storing = execute (t .store)
+
+  abbrev pub reading : Operation
+  reading = execute (t .load)
+
+  -- after the operations between, after the pointers are set back, and at the end
+  abbrev pub then : World
+  then = run (t .between) (step storing (t .ready))
+
+  then-whole : length (then .memory) ≡ memoryBytes
+  then-whole = run-long (storing ∷ t .between) (t .ready) memoryBytes (t .whole)
+
+  pub then-sized : Sized (then .processor)
+  then-sized = run-sized (storing ∷ t .between) (t .ready) (t .sized)
+
+  abbrev pub back : List Operation
+  back = t .between ++ puts (t .pointers)
+
+  abbrev pub there : World
+  there = run back (step storing (t .ready))
+
+  pub there-whole : length (there .memory) ≡ memoryBytes
+  there-whole = run-long (storing ∷ back) (t .ready) memoryBytes (t .whole)
+
+  pub there-sized : Sized (there .processor)
+  there-sized = run-sized (storing ∷ back) (t .ready) (t .sized)
+
+  -- the registers then
+  pub there-set : there .processor ≡ withRegisters (then .processor) (putInto (t .pointers) (then .processor .registers))
+  there-set =
+      ap (λ (w : World). w .processor)
+      (run-both (t .between) (puts (t .pointers)) (step storing (t .ready)) ∙ puts-set (t .pointers) (t .named) then then-whole)
+
+  abbrev pub end : World
+  end = step reading there
+
+  pub end-whole : length (end .memory) ≡ memoryBytes
+  end-whole = run-long (reading ∷ []) there memoryBytes there-whole
+
+  pub trip-replies :
+      (gets : List Operation) (got : List Reply) → replyTo reading there ≡ reply 0 0 → replies gets end ≡ got →
+      replies (puts (t .pointers) ++ reading ∷ gets) then ≡ accepted (t .pointers) ++ reply 0 0 ∷ got
+  trip-replies gets got er eg =
+      replies-both (puts (t .pointers)) (reading ∷ gets) then
+      ∙ ap (λ (l : List Reply). l ++ replies (reading ∷ gets) (run (puts (t .pointers)) then)) (puts-replies (t .pointers) (t .named) then then-whole)
+      ∙ ap (λ (w : World). accepted (t .pointers) ++ replies (reading ∷ gets) w)
+      (sym (run-both (t .between) (puts (t .pointers)) (step storing (t .ready))))
+      ∙ ap (λ (l : List Reply). accepted (t .pointers) ++ l) (replies-on reading gets there end (reply 0 0) got er refl eg)
