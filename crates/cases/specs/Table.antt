@@ -70,7 +70,7 @@ twelve =
     ∷ case (line 0x00 0xC0 0x5A 0xE4) (0x11 ∷ 0x33 ∷ 0x44 ∷ 0x66 ∷ [])
     ∷ case (map (sliceOfTwenty true) (2 ∷ 3 ∷ 18 ∷ 19 ∷ [])) (0 ∷ 1 ∷ 8 ∷ 9 ∷ [])
     ∷ case (map (rowY 31) (1 ∷ 2 ∷ 24 ∷ [])) (31 ∷ 8 ∷ 30 ∷ [])
-    ∷ case (ranks 0x03 (0 ∷ 1 ∷ 2 ∷ 3 ∷ [])) (0 ∷ 1 ∷ 0 ∷ 0 ∷ [])
+    ∷ case (ranks 0x03 (0 ∷ 1 ∷ 2 ∷ 3 ∷ [])) (0 ∷ 1 ∷ 7 ∷ 7 ∷ [])
     ∷ []
 
 -- every case holds of the definitions that the contracts cite

@@ -6,7 +6,7 @@ use lib.Dec.{eqb}
 use Rattle.basics.specs.Bits.{isSet}
 use Rattle.basics.specs.Below.{countBelow, lastBelow}
 use Rattle.colour.specs.declared.Colour.{Colour}
-use Rattle.colour.specs.Colours.{colourOf, nibbleOf, black}
+use Rattle.colour.specs.Colours.{colourOf, nibbleOf, white}
 
 -- the rank of a colour is the number of set bits below it in A
 unfoldable pub rankOf : ℕ → Colour → ℕ
@@ -16,6 +16,6 @@ rankOf a colour = countBelow (λ k. isSet k a) (nibbleOf colour)
 unfoldable pub hasRank : ℕ → ℕ → Colour → Bool
 hasRank a r colour = isSet (nibbleOf colour) a && eqb (rankOf a colour) r
 
--- the colour of rank r in the palette A. A rank with no colour is black
+-- the colour of rank r in the palette A. A rank with no colour is colour 7, white
 unfoldable pub colourOfRank : ℕ → ℕ → Colour
-colourOfRank a r = colourOf (lastBelow (nibbleOf black) (λ k. hasRank a r (colourOf k)) 8)
+colourOfRank a r = colourOf (lastBelow (nibbleOf white) (λ k. hasRank a r (colourOf k)) 8)

@@ -30,11 +30,11 @@ pub fn has_rank(palette: u8, r: u8, colour: Colour) -> bool
     false
 }
 
-// The colour of a rank: black where the palette has none.
+// The colour of a rank: white where the palette has none.
 pub fn of_rank(palette: u8, r: u8) -> Colour
     ensures { λ c. ⌜ c ≡ colourOfRank palette r ⌝ }
 {
-    let mut found: u8 = 0;
+    let mut found = Colour::WHITE.nibble();
     for k in 0..8 {
         if has_rank(palette, r, Colour::from_number(k)) {
             found = k;

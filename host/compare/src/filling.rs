@@ -4,6 +4,7 @@ use second::address::{code_block, place};
 use second::cell::Cell;
 use second::page::{first_block, screen_y};
 use second::random::Random;
+use second::sequence::short_palette;
 use second::{COLUMNS, MEMORY, ROWS};
 
 #[derive(Clone, Copy, Debug, PartialEq, Eq)]
@@ -18,14 +19,17 @@ pub enum Filling {
     EqualRows,
     /// Cells whose slices stand in the blocks of the page itself.
     ShownSlices,
+    /// Quadrichrome cells of fewer than four colours.
+    ShortPalettes,
 }
 
-pub const FILLINGS: [Filling; 5] = [
+pub const FILLINGS: [Filling; 6] = [
     Filling::AnyBytes,
     Filling::FewCells,
     Filling::EqualColumns,
     Filling::EqualRows,
     Filling::ShownSlices,
+    Filling::ShortPalettes,
 ];
 
 impl Filling {
@@ -49,6 +53,7 @@ impl Filling {
                 fill(&mut memory, ror, |row, _| with_gap(random, cells[row]));
             }
             Filling::ShownSlices => fill(&mut memory, ror, |_, _| own_cell(random, ror)),
+            Filling::ShortPalettes => fill(&mut memory, ror, |_, _| short_cell(random)),
         }
         memory
     }
@@ -137,6 +142,16 @@ fn own_cell(random: &mut Random, ror: u8) -> Cell {
             let block = shown_block(random, ror) % 8;
             cell.b = 0xC0 + 8 * u8::try_from(block).expect("a block is small") + cell.b % 8;
         }
+    }
+    cell
+}
+
+/// Most often a quadrichrome cell of fewer than four colours.
+fn short_cell(random: &mut Random) -> Cell {
+    let mut cell = any_cell(random);
+    if !random.one_in(6) {
+        cell.b |= 0xC0;
+        cell.a = short_palette(random);
     }
     cell
 }

@@ -19,5 +19,6 @@ pub mod pair;
 pub mod report;
 mod second_program;
 pub mod seen;
+pub mod short;
 pub mod trial;
 pub mod unplanned;

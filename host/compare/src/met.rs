@@ -31,6 +31,8 @@ pub struct Met {
     pub stores: usize,
     /// Draws of every row into another picture than the kept one.
     pub other_pictures: usize,
+    /// Cells of a palette of 0, 1, 2 and 3 colours that were redrawn with a rank missing.
+    short: [usize; 4],
 }
 
 impl Met {
@@ -38,6 +40,9 @@ impl Met {
         let (asked, report) = (step.asked, &step.report);
         self.stores += usize::from(step.stored);
         self.other_pictures += usize::from(step.other_picture);
+        for (count, cells) in self.short.iter_mut().zip(step.short) {
+            *count += cells;
+        }
         self.numbers[kind_of(asked)][usize::from(report.number)] += 1;
         self.lx[0] += usize::from(report.lxm);
         self.lx[1] += usize::from(report.lxa);
@@ -60,6 +65,11 @@ impl Met {
     pub fn assert_flags(&self, least: usize) {
         let mut counts = self.lx.iter().chain(&self.phases);
         assert!(counts.all(|count| *count >= least), "{self}");
+    }
+
+    /// Fails where a short palette, of none to three colours, was redrawn fewer times than `least`.
+    pub fn assert_short_palettes(&self, least: usize) {
+        assert!(self.short.iter().all(|cells| *cells >= least), "{self}");
     }
 
     /// Fails where a number that a kind of operation can get was met fewer times than `least`, or
@@ -99,6 +109,8 @@ impl fmt::Display for Met {
         writeln!(to, "left in phase 0, 1: {:?} times", self.phases)?;
         writeln!(to, "accepted draws of 0 to 25 rows: {:?}", self.rows)?;
         writeln!(to, "accesses that changed a byte: {}", self.stores)?;
-        write!(to, "draws into another picture: {}", self.other_pictures)
+        writeln!(to, "draws into another picture: {}", self.other_pictures)?;
+        let short = self.short;
+        write!(to, "cells of 0 to 3 colours with a rank missing: {short:?}")
     }
 }

@@ -1,5 +1,6 @@
 //! Random pages: the memory, the registers, the phase and the marks of a seed.
 
+use second::picture::View;
 use second::random::Random;
 use second::{Processor, PICTURE, ROM, ROWS};
 
@@ -25,7 +26,7 @@ impl Page {
     pub fn fresh(seed: u64) -> Page {
         let mut random = Random::new(seed);
         // Each filling in turn.
-        let filling = FILLINGS[(seed % 5) as usize];
+        let filling = FILLINGS[(seed % FILLINGS.len() as u64) as usize];
         let ror = 32 * (random.byte() % 8) + 8 + random.byte() % 24;
         Page {
             seed,
@@ -49,6 +50,11 @@ impl Page {
             marks: [(); ROWS].map(|()| random.below(12) < in_twelve),
             ..Page::fresh(seed)
         }
+    }
+
+    /// What the second program draws it from.
+    pub fn view(&self) -> View<'_> {
+        self.second().view(&self.memory, &self.rom)
     }
 
     /// The second program's processor in the state of the page.

@@ -9,6 +9,7 @@ use second::page::first_block;
 use second::{COLUMNS, ROWS};
 
 use crate::page::Page;
+use crate::short::short_palette;
 
 /// A cell as a redraw shows it: in a marked row.
 struct Shown<'a> {
@@ -17,11 +18,13 @@ struct Shown<'a> {
     row: usize,
     lower: bool,
     right: bool,
+    /// The number of colours of its palette, if it shows a rank that none of them has.
+    short: Option<usize>,
 }
 
 type Test = fn(&Shown) -> bool;
 
-const TESTS: [(&str, Test); 25] = [
+const TESTS: [(&str, Test); 30] = [
     ("G0", |shown| shown.cell.set() == Some(Set::G0)),
     ("G10", |shown| shown.cell.set() == Some(Set::G10)),
     ("G11", |shown| shown.cell.set() == Some(Set::G11)),
@@ -39,8 +42,16 @@ const TESTS: [(&str, Test); 25] = [
     ("low resolution, K 1", |shown| {
         shown.cell.is_low_resolution() && shown.cell.k() == 1
     }),
-    ("fewer than four colours", |shown| {
-        shown.cell.is_quadrichrome() && shown.cell.a.count_ones() < 4
+    ("no colour, a rank missing", |shown| shown.short == Some(0)),
+    ("one colour, a rank missing", |shown| shown.short == Some(1)),
+    ("two colours, a rank missing", |shown| {
+        shown.short == Some(2)
+    }),
+    ("three colours, a rank missing", |shown| {
+        shown.short == Some(3)
+    }),
+    ("more than four colours", |shown| {
+        shown.cell.is_quadrichrome() && shown.cell.a.count_ones() > 4
     }),
     ("upper half", |shown| {
         shown.cell.is_double_height() && !shown.lower
@@ -70,9 +81,9 @@ const TESTS: [(&str, Test); 25] = [
     ("slices in a shown block", |shown| {
         shown.block().is_some_and(|z| shown.is_shown_block(z))
     }),
-    ("slices at no legal place", |shown| {
-        let place = |z| slice_place(shown.cell.c, 0, z);
-        shown.block().is_some_and(|z| place(z).is_none())
+    ("slices at no legal place", |shown| shown.has_no_slices()),
+    ("no colour, slices at no legal place", |shown| {
+        shown.has_no_slices() && shown.short == Some(0)
     }),
 ];
 
@@ -91,6 +102,11 @@ impl Shown<'_> {
             Source::Rom(_) => None,
             Source::Block(z) => Some(z),
         }
+    }
+
+    fn has_no_slices(&self) -> bool {
+        let place = |z| slice_place(self.cell.c, 0, z);
+        self.block().is_some_and(|z| place(z).is_none())
     }
 
     fn is_shown_block(&self, z: usize) -> bool {
@@ -124,14 +140,15 @@ impl Seen {
     }
 
     fn look_at_cell(&mut self, page: &Page, row: usize, column: usize) {
-        let processor = page.second();
-        let cells = processor.page(&page.memory);
+        let view = page.view();
+        let cell = view.page.cell(row, column);
         let shown = Shown {
             page,
-            cell: cells.cell(row, column),
+            cell,
             row,
-            lower: shows_lower(&cells, row, column),
-            right: shows_right(&cells, row, column),
+            lower: shows_lower(&view.page, row, column),
+            right: shows_right(&view.page, row, column),
+            short: short_palette(&view, cell),
         };
         for (count, (_, test)) in self.cells.iter_mut().zip(TESTS) {
             *count += usize::from(test(&shown));

@@ -11,6 +11,7 @@ use crate::asked::Asked;
 use crate::lengths::{Lengths, SPARE};
 use crate::pair::Pair;
 use crate::report::Report;
+use crate::short::short_palette;
 use crate::unplanned::unplanned;
 
 /// The operations of one trial.
@@ -34,6 +35,8 @@ pub struct Step {
     /// Whether it is a draw of every row, for which the library was lent another picture than the
     /// one that was kept.
     pub other_picture: bool,
+    /// The cells of a palette of 0, 1, 2 and 3 colours that a draw has redrawn with a rank missing.
+    pub short: [usize; 4],
 }
 
 impl Trial {
@@ -58,7 +61,9 @@ impl Trial {
             self.lend_other_picture();
         }
         let before = self.pair.second.memory.clone();
+        let marks = self.pair.second.processor.marks;
         let report = self.pair.apply(asked);
+        let drawn = asked.operation == Operation::Draw && report.number == 0;
         let stored = self.pair.second.memory != before;
         let bytes = self.pair.library.processor.bytes();
         assert_eq!(*bytes, report.packed(), "{asked:?}: the bytes");
@@ -67,7 +72,21 @@ impl Trial {
             report,
             stored,
             other_picture,
+            short: if drawn { self.short(marks) } else { [0; 4] },
         }
+    }
+
+    /// The short palettes of some rows of the present page.
+    fn short(&self, rows: [bool; ROWS]) -> [usize; 4] {
+        let second = &self.pair.second;
+        let view = second.processor.view(&second.memory, &second.rom);
+        let marked = (0..ROWS).filter(|row| rows[*row]);
+        let cells = marked.flat_map(|row| view.page.cells(row));
+        let mut counts = [0; 4];
+        for colours in cells.filter_map(|cell| short_palette(&view, cell)) {
+            counts[colours] += 1;
+        }
+        counts
     }
 
     /// An accepted draw with every row marked.

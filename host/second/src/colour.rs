@@ -49,12 +49,12 @@ pub fn rank(palette: u8, colour: Colour) -> usize {
         .count()
 }
 
-/// The colour of a rank by search through the palette. "A rank with no colour is black."
+/// The colour of a rank by search through the palette. "Missing ranks become colour 7".
 pub fn colour_of_rank(palette: u8, wanted: usize) -> Colour {
     for colour in COLOURS {
         if in_palette(palette, colour) && rank(palette, colour) == wanted {
             return colour;
         }
     }
-    Colour::Black
+    Colour::White
 }

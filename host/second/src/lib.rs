@@ -1,5 +1,5 @@
-//! The second program: a naive model of the whole base of the rules page, written from the page
-//! alone.
+//! The second program: a naive model of the whole base of the rules page and of the change requests
+//! that have landed, written from these alone.
 //!
 //! It says each rule as literally as it can, pixel by pixel and place by place, so that a reader
 //! can hold it beside the page, and so that it can stand in judgement over another program.

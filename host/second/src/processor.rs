@@ -188,7 +188,7 @@ impl Processor {
         }
     }
 
-    fn view<'a>(&self, memory: &'a [u8], rom: &'a [u8]) -> View<'a> {
+    pub fn view<'a>(&self, memory: &'a [u8], rom: &'a [u8]) -> View<'a> {
         View {
             page: self.page(memory),
             rom,

@@ -291,9 +291,25 @@ impl Sequence {
         } else {
             self.random.byte()
         };
-        let a = self.random.byte();
-        Cell { c, b, a }
+        let mut cell = Cell {
+            c,
+            b,
+            a: self.random.byte(),
+        };
+        if cell.is_quadrichrome() && self.random.one_in(3) {
+            cell.a = short_palette(&mut self.random);
+        }
+        cell
     }
+}
+
+/// A palette of none to three colours, each number of them as often as the others.
+pub fn short_palette(random: &mut Random) -> u8 {
+    let (colours, mut palette) = (random.below(4), 0u8);
+    while (palette.count_ones() as usize) < colours {
+        palette |= 1 << random.below(8);
+    }
+    palette
 }
 
 /// The writes that plans are made of.

@@ -101,7 +101,7 @@ fn case_11_rows_of_origin_31() {
 #[test]
 fn case_12_short_palette() {
     let colours: Vec<Colour> = (0..4).map(|rank| colour_of_rank(0x03, rank)).collect();
-    let expected = [Colour::Black, Colour::Red, Colour::Black, Colour::Black];
+    let expected = [Colour::Black, Colour::Red, Colour::White, Colour::White];
     assert_eq!(colours, expected);
 }
 

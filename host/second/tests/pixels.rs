@@ -425,9 +425,12 @@ fn a_palette_of_more_or_fewer_than_four_colours() {
         (0x73, [0, 1, 4, 5]),
         (0xF6, [1, 2, 4, 5]),
         (0xF0, [4, 5, 6, 7]),
-        (0x54, [2, 4, 6, 0]),
-        (0x80, [7, 0, 0, 0]),
-        (0x00, [0, 0, 0, 0]),
+        (0x54, [2, 4, 6, 7]),
+        (0x03, [0, 1, 7, 7]),
+        (0x90, [4, 7, 7, 7]),
+        (0x80, [7, 7, 7, 7]),
+        (0x01, [0, 7, 7, 7]),
+        (0x00, [7, 7, 7, 7]),
     ];
     for (column, (a, _)) in palettes.into_iter().enumerate() {
         show(&mut bench, 1, column, 0x4B, 0xD8, a);
@@ -474,6 +477,7 @@ fn slices_at_an_illegal_y_are_0_and_the_later_rules_act_on_them() {
         show(&mut bench, 1, column, c, 0x90, 0x14);
         show(&mut bench, 2, column, c, 0xA0, 0x94);
         show(&mut bench, 3, column, c, 0xD8, 0x5A);
+        show(&mut bench, 5, column, c, 0xD8, 0x00);
     }
     for (column, c) in [0x03, 0x20, 0x80].into_iter().enumerate() {
         show(&mut bench, 4, column, c, 0x80, 0x14);
@@ -486,6 +490,7 @@ fn slices_at_an_illegal_y_are_0_and_the_later_rules_act_on_them() {
         assert_eq!(bench.pixels(1, column, 9), [1; 8], "the underline");
         assert!(all_lines_are(&bench, 2, column, [1; 8]), "the negative");
         assert!(all_lines_are(&bench, 3, column, [1; 8]), "rank 0");
+        assert!(all_lines_are(&bench, 5, column, [7; 8]), "no rank 0");
     }
     for column in 0..3 {
         assert!(all_lines_are(&bench, 4, column, [1; 8]), "a legal Y");

@@ -10,7 +10,7 @@ use crate::drawn::{draw, shown};
 
 #[test]
 fn fresh_pictures_are_the_second_programs() -> Result<(), Refusal> {
-    let pages = pages(2_000);
+    let pages = pages(2_400);
     let mut seen = Seen::default();
     for seed in 0..pages {
         let mut page = Page::fresh(seed);

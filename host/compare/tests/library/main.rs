@@ -5,4 +5,5 @@ mod drawn;
 mod forty_columns;
 mod fresh;
 mod operations;
+mod palettes;
 mod partial;

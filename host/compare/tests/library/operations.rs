@@ -19,6 +19,7 @@ fn every_operation_is_the_second_programs() {
     assert!(met.operations() as u64 >= operations);
     met.assert_every_number(300);
     met.assert_flags(1_000);
+    met.assert_short_palettes(1_000);
     assert!(met.stores > 10_000, "{} stores", met.stores);
     let partial = met.partial_draws();
     assert!(partial > 1_000, "{partial} draws of some rows");

@@ -23,7 +23,7 @@ fn wanted(page: &Page) -> Vec<u8> {
 
 #[test]
 fn only_marked_rows_are_redrawn() -> Result<(), Refusal> {
-    let pages = pages(2_000);
+    let pages = pages(2_400);
     let mut seen = Seen::default();
     for seed in 0..pages {
         let mut page = Page::partly_marked(seed);

@@ -1,24 +1,25 @@
-use Rattle.colour.proofs.Laws.{seek-hit, seek-miss, seek-end}
-use Rattle.colour.specs.Ranks.{hasRank}
-use Rattle.colour.specs.Colours.{colourOf}
+use Rattle.colour.proofs.Laws.{sought, seek-hit, seek-miss, seek-end}
 use Rattle.basics.specs.Below.{lastBelow}
 use native.Mathlib.Omega.{arith}
 use mathlib.Core.Logic.{⊎-elim}
-use mathlib.Core.Path.{_≡_, refl, _∙_}
+use mathlib.Core.Path.{_≡_, _∙_}
 use Prim.Native.Nat.{_≤_, _-_}
 use borrow.Author.Needs.{needs}
 use Rattle.colour.proofs.palette.of_rank.Statement.{statement}
 use Rattle.colour.proofs.palette.of_rank.Tie as tie
 
 abbrev Inv-loop : tie.InvT-loop
-Inv-loop palette r found₀ k₀ found k = (k ≤ 8) × (found ≡ lastBelow 0 (λ j. hasRank palette r (colourOf j)) k)
+Inv-loop palette r found₀ k₀ found k = (k ≤ 8) × (found ≡ sought palette r k)
 
 abbrev μ-loop : tie.MeasureT-loop
 μ-loop palette r found₀ k₀ found k = 8 - k
 
+nibble-requires : tie.Need-nibble-requires Inv-loop μ-loop
+nibble-requires c κs = search needs
+
 loop-holds : tie.Need-loop-holds Inv-loop μ-loop
 unfolding lastBelow
-loop-holds c = (omega arith, refl)
+loop-holds c = (omega arith, c .nibble .ensures)
 
 from-number-requires : tie.Need-from-number-requires Inv-loop μ-loop
 from-number-requires c κs = search needs
@@ -54,6 +55,7 @@ of-rank-spec =
     (tie.spec
     Inv-loop
     μ-loop
+    nibble-requires
     loop-holds
     from-number-requires
     has-rank-requires
