@@ -11,7 +11,7 @@ use Rattle.basics.specs.Below.{anyBelow, countBelow, lastBelow, endBelow
 use Rattle.basics.proofs.Choice.{or-left, or-right, or-cases, eq-or-ne, lt-or-le, bool-cases, pick-either}
 
 last-one : (i n : ℕ) → i < suc n → n ≤ i → i ≡ n
-last-one i n l h = omega (arith, l, h)
+last-one i n l h = omega arith
 
 one-at-most : (t : Bool) → oneIf t ≤ 1
 one-at-most true = omega arith
@@ -104,13 +104,13 @@ module _ (f : ℕ → Bool) where
   -- one passes; one does not
   pub count-some : (n i : ℕ) → i < n → f i ≡ true → 0 < countBelow f n
   unfolding countBelow
-  count-some zero i l e = absurd (omega (arith, l))
+  count-some zero i l e = absurd (omega arith)
   count-some (suc n) i l e =
       ⊎-elim (λ (h : i < n). omega (arith, count-some n i h e)) (λ (h : n ≤ i). rw (ap f (sym (last-one i n l h)) ∙ e) (omega arith)) (lt-or-le i n)
 
   pub count-less : (n i : ℕ) → i < n → f i ≡ false → countBelow f n < n
   unfolding countBelow
-  count-less zero i l e = absurd (omega (arith, l))
+  count-less zero i l e = absurd (omega arith)
   count-less (suc n) i l e =
       ⊎-elim (λ (h : i < n). omega (arith, count-less n i h e, one-at-most (f n)))
       (λ (h : n ≤ i). rw (ap f (sym (last-one i n l h)) ∙ e) (omega (arith, count-at-most n))) (lt-or-le i n)

@@ -40,7 +40,7 @@ module _ (first z : ℕ) where
   block-third a b c ea eb ec na nb =
       sym
       (ap₂ _||_ (ne-eqb _ _ (λ e. na (ea ∙ e)))
-      (ap₂ _||_ (ne-eqb _ _ (λ e. nb (eb ∙ e))) (ap (λ (k : ℕ). eqb k z) (omega (arith, ec)))))
+      (ap₂ _||_ (ne-eqb _ _ (λ e. nb (eb ∙ e))) (ap (λ (k : ℕ). eqb k z) (omega arith))))
 
 module _ (x y z : ℕ) (page : onPage x y ≡ true) (shown : Shown) (r : ℕ) where
   -- the row's Y and one of the three blocks

@@ -53,9 +53,9 @@ returns c = let p3 = c .before .before .before in
     let g = p1 .before .before .before .args in
     let at = placeOf (g .x) (g .y) in
     code-listed (g .memory .now) (g .x) (g .y) (g .z) _ _ _
-    (p1 .place-at .ensures ∙ ap at (omega (arith, p1 .before .block .ensures)))
-    (p2 .place-at2 .ensures ∙ ap at (omega (arith, p2 .before .block2 .ensures)))
-    (p3 .place-at3 .ensures ∙ ap at (omega (arith, p3 .before .block3 .ensures)))
+    (p1 .place-at .ensures ∙ ap at (omega arith))
+    (p2 .place-at2 .ensures ∙ ap at (omega arith))
+    (p3 .place-at3 .ensures ∙ ap at (omega arith))
 
 pub code-at-spec : {M : Type 1} → statement M
 code-at-spec =

@@ -12,7 +12,7 @@ shared-slice-read-if1 : tie.Need-shared-slice-read-if1
 shared-slice-read-if1 c = omega (arith, c .before .place .ensures, legal-place _ _ (c .before .before .before .pre .1))
 
 returns : tie.Need-returns
-returns c = let g = c .before .before in store-same _ _ _ _ _ _ (g .place .ensures) (omega (arith, c .if1 .taken))
+returns c = let g = c .before .before in store-same _ _ _ _ _ _ (g .place .ensures) (omega arith)
 
 can-draw-requires : tie.Need-can-draw-requires
 can-draw-requires c κs = search needs

@@ -37,8 +37,8 @@ loop-again c = let l = c .before .before .loop in
     let s = end-step (isUnmarked (c .before .before .before .args .t1)) (l .r) in
     let f = isUnmarked (c .before .before .before .args .t1) in (
       omega arith,
-      ⊎-elim (λ w. omega (arith, w .1, s ∙ ap (λ (t : Bool). pick t (l .r + 1) (endBelow f (l .r))) (w .0 .taken)))
-          (λ w. omega (arith, w .1, l .inv .1, s ∙ ap (λ (t : Bool). pick t (l .r + 1) (endBelow f (l .r))) (w .0 .left)))
+      ⊎-elim (λ w. omega (arith, s ∙ ap (λ (t : Bool). pick t (l .r + 1) (endBelow f (l .r))) (w .0 .taken)))
+          (λ w. omega (arith, s ∙ ap (λ (t : Bool). pick t (l .r + 1) (endBelow f (l .r))) (w .0 .left)))
           (c .if1 .came),
     )
 
