@@ -83,6 +83,7 @@ static void repeat_refill(struct panel *panel, unsigned long round)
 static const struct scenario scenarios[] = {
     {"copy", 1, prepare_drawn, repeat_copy},
     {"redraw", 1, prepare_marked, repeat_redraw},
+    {"quadrichrome", 1, prepare_quadrichrome, repeat_redraw},
     {"double", 1, prepare_double, repeat_redraw},
     {"row", BINTURAMIS_ROWS, prepare_one_row, repeat_row},
     {"unmarked", 1, prepare_drawn, repeat_unmarked},

@@ -113,6 +113,22 @@ void prepare_drawn(struct panel *panel, unsigned row)
     draw_first(panel);
 }
 
+static struct cell quadrichrome(struct cell cell)
+{
+    cell.b |= QUADRICHROME;
+    return cell;
+}
+
+/* The palettes and the slices stay random, so palettes of every length are met. */
+void prepare_quadrichrome(struct panel *panel, unsigned row)
+{
+    prepare_marked(panel, row);
+    for (unsigned each = 0; each < BINTURAMIS_ROWS; each++)
+        for (unsigned column = 0; column < BINTURAMIS_COLUMNS; column++)
+            put_cell(panel, each, column, quadrichrome(panel->pages[1][each][column]));
+    panel->before = panel->processor;
+}
+
 static void make_single(struct panel *panel, unsigned row)
 {
     for (unsigned column = 0; column < BINTURAMIS_COLUMNS; column++) {

@@ -13,6 +13,9 @@ void prepare_marked(struct panel *panel, unsigned row);
 /* The same with one cell of double height and double width everywhere. */
 void prepare_double(struct panel *panel, unsigned row);
 
+/* The same with random quadrichrome cells alone. */
+void prepare_quadrichrome(struct panel *panel, unsigned row);
+
 /* A page of random cells, drawn: no row is marked. */
 void prepare_drawn(struct panel *panel, unsigned row);
 

@@ -23,7 +23,8 @@ function head() {
 by != "time" && NR == 1 { floor = $1; head() }
 by != "time" && NR == 2 { redraw = $1 }
 by != "time" {
-    limit = $2 == "redraw" ? 2 * redraw : $2
+    times = $2
+    limit = sub(/\*redraw$/, "", times) ? times * redraw : $2
     put($4, commas($1), sprintf("%.2f", $1 / floor), bound(limit), bound($3))
 }
 
