@@ -119,23 +119,30 @@ module _ (f : ℕ → Bool) where
   unfolding countBelow
   count-step i = rw add-one
 
-  pub last-step : (none i : ℕ) → lastBelow none f (i + 1) ≡ pick (f i) i (lastBelow none f i)
+  -- as many or more are below a higher number, and more where one passes before it
+  pub count-grows : (n m : ℕ) → n ≤ m → countBelow f n ≤ countBelow f m
+  unfolding countBelow
+  count-grows n zero l = let e : n ≡ 0 = omega arith in rw e (omega arith)
+  count-grows n (suc m) l =
+      ⊎-elim (λ (e : n ≡ suc m). rw e (omega arith)) (λ (h : n ≡ suc m → ⊥). omega (arith, count-grows n m (omega arith))) (eq-or-ne n (suc m))
+
+  pub count-passed : (i n : ℕ) → i < n → f i ≡ true → countBelow f i < countBelow f n
+  count-passed i n l e = let one : countBelow f (i + 1) ≡ countBelow f i + 1 = count-step i ∙ rw e in omega (arith, count-grows (i + 1) n (omega arith))
+
+  -- none passes; one passes, and none after it
+  pub last-never : (none n : ℕ) → ((i : ℕ) → i < n → f i ≡ false) → lastBelow none f n ≡ none
   unfolding lastBelow
-  last-step none i = rw add-one
+  last-never none zero h = refl
+  last-never none (suc n) h = rw (h n (omega arith)) (last-never none n (λ i l. h i (omega arith)))
 
-  -- a turn of a search: one that passes is the answer so far, another leaves it
-  pub last-hit : (none i : ℕ) → f i ≡ true → lastBelow none f (i + 1) ≡ i
-  last-hit none i t = last-step none i ∙ rw t
-
-  pub last-miss : (none i : ℕ) → f i ≡ false → lastBelow none f (i + 1) ≡ lastBelow none f i
-  last-miss none i t = last-step none i ∙ rw t
-
-  -- what is found is below n, or is the answer for none
-  pub last-small : (none n m : ℕ) → none < m → n ≤ m → lastBelow none f n < m
+  pub last-only : (none n i : ℕ) → i < n → f i ≡ true → ((j : ℕ) → j < n → i < j → f j ≡ false) → lastBelow none f n ≡ i
   unfolding lastBelow
-  last-small none zero m p q = p
-  last-small none (suc n) m p q =
-      ⊎-elim (λ t. rw t (omega arith)) (λ t. rw t (last-small none n m p (omega arith))) (bool-cases (f n))
+  last-only none zero i l e h = absurd (omega arith)
+  last-only none (suc n) i l e h =
+      ⊎-elim
+      (λ (q : i < n). rw (h n (omega arith) q) (last-only none n i q e (λ j p. h j (omega arith))))
+      (λ (q : n ≤ i). rw (← last-one i n l q, e))
+      (lt-or-le i n)
 
 -- two tests that agree below n
 module _ (f g : ℕ → Bool) where

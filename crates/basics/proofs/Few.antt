@@ -18,3 +18,12 @@ module _ (P : ℕ → Type 0) where
       two′ zero h = c
       two′ (suc zero) h = d
       two′ (suc (suc i)) h = absurd (not-suc-le-zero (le-of-suc-le-suc (le-of-suc-le-suc h)))
+
+module _ (P : ℕ → Type 0) where
+  pub eight : P 0 → P 1 → P 2 → P 3 → P 4 → P 5 → P 6 → P 7 → (i : ℕ) → i < 8 → P i
+  eight a b c d e f g h zero l = a
+  eight a b c d e f g h (suc zero) l = b
+  eight a b c d e f g h (suc (suc zero)) l = c
+  eight a b c d e f g h (suc (suc (suc zero))) l = d
+  eight a b c d e f g h (suc (suc (suc (suc i)))) l =
+      four (λ j. P (suc (suc (suc (suc j))))) e f g h i (le-of-suc-le-suc (le-of-suc-le-suc (le-of-suc-le-suc (le-of-suc-le-suc l))))

@@ -3,13 +3,14 @@ ghost use mathlib.Core.Path.{_≡_};
 ghost use mathlib.Core.Bool.{not};
 ghost use lib.Dec.{eqb};
 ghost use Rattle.basics.specs.Choice.{oneIf};
+ghost use Rattle.colour.specs.Colours.{packedOf};
 ghost use Rattle.cell.specs.Pixels.{concealed, flashed, inverted, inked, dyed};
-ghost use Rattle.cell.specs.HowPairs.{bichromePairs, quadrichromePairs, rankPair, cellPairs};
+ghost use Rattle.cell.specs.HowPairs.{bichromePairs, quadrichromePairs, cellPairs};
 use crate::kind::BichromeCell;
 use crate::kind::Cell;
 use colour::Colour;
 use colour::packed;
-use colour::palette::of_rank;
+use colour::palette::by_rank;
 use shown::Shown;
 
 // Conceal with PAT 3 makes a pixel's bit 0.
@@ -91,22 +92,23 @@ pub fn bichrome_pairs(cell: BichromeCell, shown: Shown) -> [u8; 4]
     ]
 }
 
-// Both pixels of a pair have the colour of its rank.
-pub fn rank_pair(palette: u8, r: u8) -> u8
-    ensures { λ p. ⌜ p ≡ rankPair palette r ⌝ }
+// Both pixels of a pair have one colour.
+fn both(colour: Colour) -> u8
+    ensures { λ r. ⌜ r ≡ packedOf colour colour ⌝ }
 {
-    let colour = of_rank(palette, r);
     packed(colour, colour)
 }
 
+// A pair for each rank, so that two bits of a slice need only be looked up.
 pub fn quadrichrome_pairs(palette: u8) -> [u8; 4]
     ensures { λ r. ⌜ r ≡ quadrichromePairs palette ⌝ }
 {
+    let colours = by_rank(palette);
     [
-        rank_pair(palette, 0),
-        rank_pair(palette, 1),
-        rank_pair(palette, 2),
-        rank_pair(palette, 3),
+        both(colours[0]),
+        both(colours[1]),
+        both(colours[2]),
+        both(colours[3]),
     ]
 }
 

@@ -1,18 +1,19 @@
 -- Laws of colours, ranks and palettes.
 -- Assumes nothing.
-use Prim.Native.Nat.{ℕ, _+_, _*_, _%_, _^_, _<_, _≤_}
-use mathlib.Core.Path.{_≡_, sym, _∙_, ap}
-use mathlib.Core.Bool.{Bool, true, false}
+use Prim.Native.Nat.{ℕ, _*_, _%_, _^_, _<_, _≤_}
+use mathlib.Core.Path.{_≡_, refl, _∙_, ap}
+use mathlib.Core.Bool.{true, false, _&&_}
+use mathlib.Core.Logic.{⊎-elim}
 use native.Mathlib.Omega.{arith}
-use lib.Dec.{eqb, leb}
+use lib.Dec.{eqb}
 use lib.Count.{ones, onesIn}
-use borrow.Author.Tests.{le-leb}
+use borrow.Author.Tests.{eq-eqb, ne-eqb}
 use Rattle.basics.specs.Bits.{isSet}
-use Rattle.basics.specs.Choice.{pick}
-use Rattle.basics.specs.Below.{countBelow, lastBelow}
+use Rattle.basics.specs.Below.{countBelow}
 use Rattle.basics.proofs.Computed.{agree, agree2}
-use Rattle.basics.proofs.Below.{last-hit, last-miss}
-use Rattle.colour.specs.declared.Colour.{Colour}
+use Rattle.basics.proofs.Few.{eight}
+use Rattle.basics.proofs.Choice.{bool-cases}
+use Rattle.basics.proofs.Below.{count-passed, last-never, last-only}
 use Rattle.colour.specs.Colours.{colourOf, nibbleOf, white}
 use Rattle.colour.specs.Ranks.{rankOf, hasRank, colourOfRank}
 
@@ -29,52 +30,39 @@ pub ones-below : (a k : ℕ) → a < 256 → k < 8 → ones (a % 2 ^ k) ≡ coun
 unfolding ones onesIn countBelow
 ones-below = agree2 (λ a k. ones (a % 2 ^ k)) (λ a k. countBelow (λ j. isSet j a) k) 256 8 tt
 
--- the two ways of a rank's test
-module _ (a r : ℕ) (colour : Colour) where
-  pub rank-has : isSet (nibbleOf colour) a ≡ true → hasRank a r colour ≡ eqb (rankOf a colour) r
+-- how many colours of the palette are below number k: the rank of colour k, and all of them at 8
+abbrev pub below : ℕ → ℕ → ℕ
+below a = countBelow (λ j. isSet j a)
+
+pub number-of : (k : ℕ) → k < 8 → nibbleOf (colourOf k) ≡ k
+number-of = eight (λ k. nibbleOf (colourOf k) ≡ k) refl refl refl refl refl refl refl refl
+
+pub rank-of : (a k : ℕ) → k < 8 → rankOf a (colourOf k) ≡ below a k
+unfolding rankOf
+rank-of a k l = ap (below a) (number-of k l)
+
+module _ (a : ℕ) where
+  has-rank : (r k : ℕ) → k < 8 → hasRank a r (colourOf k) ≡ (isSet k a && eqb (below a k) r)
   unfolding hasRank
-  rank-has h = rw h
+  has-rank r k l = rw (rank-of a k l, number-of k l)
 
-  pub rank-has-not : isSet (nibbleOf colour) a ≡ false → hasRank a r colour ≡ false
-  unfolding hasRank
-  rank-has-not h = rw h
+  -- a colour has no rank but its own, and that only where the palette has it
+  other-rank : (r k : ℕ) → k < 8 → (isSet k a ≡ true → below a k ≡ r → ⊥) → hasRank a r (colourOf k) ≡ false
+  other-rank r k l h =
+      has-rank r k l ∙ ⊎-elim (λ t. rw t (ne-eqb (below a k) r (h t))) (λ t. rw t) (bool-cases (isSet k a))
 
--- the number found for rank r among the first k colours: white's, as long as none has the rank
-abbrev pub sought : ℕ → ℕ → ℕ → ℕ
-sought a r = lastBelow (nibbleOf white) (λ j. hasRank a r (colourOf j))
+  -- the colour of the rank of a colour that the palette has is that colour: the rank names it and no other
+  pub of-its-rank : (k : ℕ) → k < 8 → isSet k a ≡ true → colourOfRank a (below a k) ≡ colourOf k
+  unfolding colourOfRank
+  of-its-rank k l h =
+      ap colourOf
+      (last-only (λ j. hasRank a (below a k) (colourOf j)) (nibbleOf white) 8 k l (has-rank (below a k) k l ∙ rw h (eq-eqb (below a k) (below a k) refl))
+      (λ j m past. other-rank (below a k) j m (λ t e. omega (arith, count-passed (λ i. isSet i a) k j past h))))
 
--- a turn of the search for a rank, from what the code learnt of colour k
-module _ (a r k : ℕ) (colour : Colour) (b : Bool) (is : colour ≡ colourOf k) (learnt : b ≡ hasRank a r colour) (so-far : ℕ) where
-  asked : hasRank a r (colourOf k) ≡ b
-  asked = ap (hasRank a r) (sym is) ∙ sym learnt
-
-  pub seek-hit : b ≡ true → so-far ≡ k → so-far ≡ sought a r (k + 1)
-  seek-hit t e = e ∙ sym (last-hit (λ j. hasRank a r (colourOf j)) (nibbleOf white) k (asked ∙ t))
-
-  pub seek-miss : b ≡ false → so-far ≡ sought a r k → so-far ≡ sought a r (k + 1)
-  seek-miss t e = e ∙ sym (last-miss (λ j. hasRank a r (colourOf j)) (nibbleOf white) k (asked ∙ t))
-
-pub seek-end : (a r k found : ℕ) → found ≡ sought a r k → k ≤ 8 → 8 ≤ k → colourOf found ≡ colourOfRank a r
-unfolding colourOfRank
-seek-end a r k found e p q = let eight : k ≡ 8 = omega arith in ap colourOf (e ∙ ap (sought a r) eight)
-
--- the colour of a colour's rank is that colour, where the palette has it: the rank names it and no other
-abbrev again : ℕ → ℕ → ℕ
-again a k = nibbleOf (colourOfRank a (rankOf a (colourOf k)))
-
-pub of-its-rank :
-    (a k : ℕ) → a < 256 → k < 8 → pick (isSet (nibbleOf (colourOf k)) a) (again a k) (nibbleOf (colourOf k)) ≡ nibbleOf (colourOf k)
-unfolding colourOfRank lastBelow hasRank rankOf countBelow
-of-its-rank = agree2 (λ a k. pick (isSet (nibbleOf (colourOf k)) a) (again a k) (nibbleOf (colourOf k))) (λ a k. nibbleOf (colourOf k)) 256 8 tt
-
--- a palette of n colours has ranks 0 to n − 1, and every other rank is white: all four where A is 0
-abbrev pub colours : ℕ → ℕ
-colours a = countBelow (λ k. isSet k a) 8
-
-missing : (a r : ℕ) → a < 256 → r < 4 → pick (leb (colours a) r) (sought a r 8) (nibbleOf white) ≡ nibbleOf white
-unfolding lastBelow hasRank rankOf countBelow
-missing = agree2 (λ a r. pick (leb (colours a) r) (sought a r 8) (nibbleOf white)) (λ a r. nibbleOf white) 256 4 tt
-
-pub missing-white : (a r : ℕ) → a < 256 → r < 4 → colours a ≤ r → colourOfRank a r ≡ white
-unfolding colourOfRank
-missing-white a r p q h = ap colourOf (rw (le-leb (colours a) r h) at (missing a r p q))
+  -- of a palette of n colours each rank from n on is white: all four where A is 0
+  pub missing-white : (r : ℕ) → below a 8 ≤ r → colourOfRank a r ≡ white
+  unfolding colourOfRank
+  missing-white r p =
+      ap colourOf
+      (last-never (λ j. hasRank a r (colourOf j)) (nibbleOf white) 8
+      (λ j m. other-rank r j m (λ t e. omega (arith, count-passed (λ i. isSet i a) j 8 m t))))
