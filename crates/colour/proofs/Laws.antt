@@ -34,6 +34,7 @@ ones-below = agree2 (λ a k. ones (a % 2 ^ k)) (λ a k. countBelow (λ j. isSet 
 abbrev pub below : ℕ → ℕ → ℕ
 below a = countBelow (λ j. isSet j a)
 
+-- the number of a number's colour is that number
 pub number-of : (k : ℕ) → k < 8 → nibbleOf (colourOf k) ≡ k
 number-of = eight (λ k. nibbleOf (colourOf k) ≡ k) refl refl refl refl refl refl refl refl
 
@@ -52,12 +53,15 @@ module _ (a : ℕ) where
       has-rank r k l ∙ ⊎-elim (λ t. rw t (ne-eqb (below a k) r (h t))) (λ t. rw t) (bool-cases (isSet k a))
 
   -- the colour of the rank of a colour that the palette has is that colour: the rank names it and no other
-  pub of-its-rank : (k : ℕ) → k < 8 → isSet k a ≡ true → colourOfRank a (below a k) ≡ colourOf k
+  named-by : (k : ℕ) → k < 8 → isSet k a ≡ true → colourOfRank a (below a k) ≡ colourOf k
   unfolding colourOfRank
-  of-its-rank k l h =
+  named-by k l h =
       ap colourOf
       (last-only (λ j. hasRank a (below a k) (colourOf j)) (nibbleOf white) 8 k l (has-rank (below a k) k l ∙ rw h (eq-eqb (below a k) (below a k) refl))
       (λ j m past. other-rank (below a k) j m (λ t e. omega (arith, count-passed (λ i. isSet i a) k j past h))))
+
+  pub of-its-rank : (k : ℕ) → k < 8 → isSet k a ≡ true → colourOfRank a (rankOf a (colourOf k)) ≡ colourOf k
+  of-its-rank k l h = ap (colourOfRank a) (rank-of a k l) ∙ named-by k l h
 
   -- of a palette of n colours each rank from n on is white: all four where A is 0
   pub missing-white : (r : ℕ) → below a 8 ≤ r → colourOfRank a r ≡ white

@@ -61,7 +61,7 @@ module _ (a k : ℕ) (l : k < 8) (colour : Colour) (is : colour ≡ colourOf k) 
       unfolding joined
       found-more m =
           let low : below a k + 0 ≡ r = omega (arith, rank) in
-          let its : colour ≡ colourOfRank a r = is ∙ sym (of-its-rank a k l (asked ∙ t)) ∙ ap (colourOfRank a) (sym rank) in
+          let its : colour ≡ colourOfRank a r = is ∙ sym (of-its-rank a k l (asked ∙ t)) ∙ ap (colourOfRank a) (sym (q ∙ ap (rankOf a) is)) in
           let first : colour ≡ ranked a (below a k + 0) = its ∙ rw (low, lt-ltb r 4 m) in
           let moved : (i : ℕ) → below a (k + 1) + i ≡ below a k + (1 + i) = λ i. omega (arith, one, rank) in
           rw (e, first, ap (ranked a) (moved 0), ap (ranked a) (moved 1), ap (ranked a) (moved 2))
