@@ -101,20 +101,6 @@ module _ (f : ℕ → Bool) where
   count-never zero h = refl
   count-never (suc n) h = rw (count-never n (λ i k. h i (omega arith)), h n (omega arith))
 
-  -- one passes; one does not
-  pub count-some : (n i : ℕ) → i < n → f i ≡ true → 0 < countBelow f n
-  unfolding countBelow
-  count-some zero i l e = absurd (omega arith)
-  count-some (suc n) i l e =
-      ⊎-elim (λ (h : i < n). omega (arith, count-some n i h e)) (λ (h : n ≤ i). rw (ap f (sym (last-one i n l h)) ∙ e) (omega arith)) (lt-or-le i n)
-
-  pub count-less : (n i : ℕ) → i < n → f i ≡ false → countBelow f n < n
-  unfolding countBelow
-  count-less zero i l e = absurd (omega arith)
-  count-less (suc n) i l e =
-      ⊎-elim (λ (h : i < n). omega (arith, count-less n i h e, one-at-most (f n)))
-      (λ (h : n ≤ i). rw (ap f (sym (last-one i n l h)) ∙ e) (omega (arith, count-at-most n))) (lt-or-le i n)
-
   pub count-step : (i : ℕ) → countBelow f (i + 1) ≡ countBelow f i + oneIf (f i)
   unfolding countBelow
   count-step i = rw add-one
@@ -128,6 +114,17 @@ module _ (f : ℕ → Bool) where
 
   pub count-passed : (i n : ℕ) → i < n → f i ≡ true → countBelow f i < countBelow f n
   count-passed i n l e = let one : countBelow f (i + 1) ≡ countBelow f i + 1 = count-step i ∙ rw e in omega (arith, count-grows (i + 1) n (omega arith))
+
+  -- one passes; one does not
+  pub count-some : (n i : ℕ) → i < n → f i ≡ true → 0 < countBelow f n
+  count-some n i l e = omega (arith, count-passed i n l e)
+
+  pub count-less : (n i : ℕ) → i < n → f i ≡ false → countBelow f n < n
+  unfolding countBelow
+  count-less zero i l e = absurd (omega arith)
+  count-less (suc n) i l e =
+      ⊎-elim (λ (h : i < n). omega (arith, count-less n i h e, one-at-most (f n)))
+      (λ (h : n ≤ i). rw (ap f (sym (last-one i n l h)) ∙ e) (omega (arith, count-at-most n))) (lt-or-le i n)
 
   -- none passes; one passes, and none after it
   pub last-never : (none n : ℕ) → ((i : ℕ) → i < n → f i ≡ false) → lastBelow none f n ≡ none

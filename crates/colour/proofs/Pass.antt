@@ -34,36 +34,35 @@ pub found-none : (a : ℕ) → found a 8 ≡ table (λ i. white) 4
 found-none a =
     table-same _ _ 4 (λ i l. pick-either (λ c. c ≡ white) (ltb (below a 8 + i) 4) _ _ (missing-white a (below a 8 + i) (omega arith)) refl)
 
--- a turn of the pass, from what the code learnt of colour k: whether the palette has it, and then its rank
-module _ (a k : ℕ) (l : k < 8) (colour : Colour) (is : colour ≡ colourOf k) (has : Bool) (h : has ≡ isSet (nibbleOf colour) a) where
+-- a turn of the pass, down from n to k, from what the code learnt of colour k: whether the palette has it, and then its rank
+module _ (a k n : ℕ) (down : n ≡ k + 1) (l : n ≤ 8) (colour : Colour) (is : colour ≡ colourOf k) (has : Bool) (h : has ≡ isSet (nibbleOf colour) a) where
   asked : isSet k a ≡ has
-  asked = ap (λ (n : ℕ). isSet n a) (sym (ap nibbleOf is ∙ number-of k l)) ∙ sym h
+  asked = ap (λ (m : ℕ). isSet m a) (sym (ap nibbleOf is ∙ number-of k (omega arith))) ∙ sym h
 
-  next : below a (k + 1) ≡ below a k + oneIf has
-  next = count-step (λ j. isSet j a) k ∙ ap (λ (t : Bool). below a k + oneIf t) asked
+  next : below a n ≡ below a k + oneIf has
+  next = ap (below a) down ∙ count-step (λ j. isSet j a) k ∙ ap (λ (t : Bool). below a k + oneIf t) asked
 
-  module _ (xs : List Colour) (e : xs ≡ found a (k + 1)) where
+  module _ (xs : List Colour) (e : xs ≡ found a n) where
     pub found-without : has ≡ false → xs ≡ found a k
-    found-without t = let same : below a (k + 1) ≡ below a k = next ∙ rw t (omega arith) in e ∙ rw same
+    found-without t = let same : below a n ≡ below a k = next ∙ rw t (omega arith) in e ∙ rw same
 
     module _ (t : has ≡ true) (r : ℕ) (q : r ≡ rankOf a colour) where
       rank : r ≡ below a k
-      rank = q ∙ ap (rankOf a) is ∙ rank-of a k l
+      rank = q ∙ ap (rankOf a) is ∙ rank-of a k (omega arith)
 
-      one : below a (k + 1) ≡ r + 1
+      one : below a n ≡ r + 1
       one = next ∙ rw (t, rank)
 
       pub found-past : 4 ≤ r → xs ≡ found a k
-      found-past m =
-          e ∙ table-same _ _ 4 (λ i n. over a (below a (k + 1) + i) (omega (arith, one)) ∙ sym (over a (below a k + i) (omega (arith, rank))))
+      found-past m = e ∙ table-same _ _ 4 (λ i low. over a (below a n + i) (omega (arith, one)) ∙ sym (over a (below a k + i) (omega (arith, rank))))
 
       pub found-more : r < 4 → (colour ∷ getD xs 0 black ∷ getD xs 1 black ∷ getD xs 2 black ∷ []) ≡ found a k
       unfolding joined
       found-more m =
           let low : below a k + 0 ≡ r = omega (arith, rank) in
-          let its : colour ≡ colourOfRank a r = is ∙ sym (of-its-rank a k l (asked ∙ t)) ∙ ap (colourOfRank a) (sym (q ∙ ap (rankOf a) is)) in
+          let its : colour ≡ colourOfRank a r = is ∙ sym (of-its-rank a k (omega arith) (asked ∙ t)) ∙ ap (colourOfRank a) (sym (q ∙ ap (rankOf a) is)) in
           let first : colour ≡ ranked a (below a k + 0) = its ∙ rw (low, lt-ltb r 4 m) in
-          let moved : (i : ℕ) → below a (k + 1) + i ≡ below a k + (1 + i) = λ i. omega (arith, one, rank) in
+          let moved : (i : ℕ) → below a n + i ≡ below a k + (1 + i) = λ i. omega (arith, one) in
           rw (e, first, ap (ranked a) (moved 0), ap (ranked a) (moved 1), ap (ranked a) (moved 2))
 
 pub found-all : (a : ℕ) → found a 0 ≡ table (colourOfRank a) 4

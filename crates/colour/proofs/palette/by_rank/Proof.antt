@@ -2,7 +2,7 @@ use Rattle.colour.proofs.Pass.{found, found-none, found-more, found-pas
 use Rattle.basics.specs.Parts.{joined}
 use native.Mathlib.Omega.{arith}
 use mathlib.Core.Path.{_≡_, sym, ap, _∙_}
-use Prim.Native.Nat.{_+_, _-_, _≤_}
+use Prim.Native.Nat.{_-_, _≤_}
 use borrow.Author.Needs.{needs}
 use Rattle.colour.proofs.palette.by_rank.Statement.{statement}
 use Rattle.colour.proofs.palette.by_rank.Tie as tie
@@ -44,12 +44,10 @@ loop-less c = omega arith
 loop-again : tie.Need-loop-again Inv-loop μ-loop
 loop-again c = let r = c .before .before .before .before in
     let h = r .before .before in
-    let f = h .before in
-    let l = f .before .before .loop in
-    let up : l .k ≡ l .k - 1 + 1 = omega arith in (
+    let l = h .before .before .before .loop in (
       omega arith,
-      found-more _ _ (omega arith) _ (f .from-number .ensures) _ (h .has .ensures) _ (l .inv .1 ∙ ap (found _) up) (r .before .if1 .taken) _
-          (r .rank .ensures) (omega arith),
+      found-more _ (l .k - 1) (l .k) (omega arith) (l .inv .0) _ (h .before .from-number .ensures) _ (h .has .ensures) _ (l .inv .1)
+          (r .before .if1 .taken) _ (r .rank .ensures) (omega arith),
     )
 
 loop-less-2 : tie.Need-loop-less-2 Inv-loop μ-loop
@@ -58,12 +56,10 @@ loop-less-2 c = omega arith
 loop-again-2 : tie.Need-loop-again-2 Inv-loop μ-loop
 loop-again-2 c = let r = c .before in
     let h = r .before .before in
-    let f = h .before in
-    let l = f .before .before .loop in
-    let up : l .k ≡ l .k - 1 + 1 = omega arith in (
+    let l = h .before .before .before .loop in (
       omega arith,
-      found-past _ _ (omega arith) _ (f .from-number .ensures) _ (h .has .ensures) _ (l .inv .1 ∙ ap (found _) up) (r .before .if1 .taken) _
-          (r .rank .ensures) (omega arith),
+      found-past _ (l .k - 1) (l .k) (omega arith) (l .inv .0) _ (h .before .from-number .ensures) _ (h .has .ensures) _ (l .inv .1)
+          (r .before .if1 .taken) _ (r .rank .ensures) (omega arith),
     )
 
 loop-less-3 : tie.Need-loop-less-3 Inv-loop μ-loop
@@ -71,11 +67,9 @@ loop-less-3 c = omega arith
 
 loop-again-3 : tie.Need-loop-again-3 Inv-loop μ-loop
 loop-again-3 c = let h = c .before in
-    let f = h .before in
-    let l = f .before .before .loop in
-    let up : l .k ≡ l .k - 1 + 1 = omega arith in (
+    let l = h .before .before .before .loop in (
       omega arith,
-      found-without _ _ (omega arith) _ (f .from-number .ensures) _ (h .has .ensures) _ (l .inv .1 ∙ ap (found _) up) (c .if1 .left),
+      found-without _ (l .k - 1) (l .k) (omega arith) (l .inv .0) _ (h .before .from-number .ensures) _ (h .has .ensures) _ (l .inv .1) (c .if1 .left),
     )
 
 returns : tie.Need-returns Inv-loop μ-loop
