@@ -19,7 +19,8 @@
 struct scenario {
     const char *name;
     unsigned panels;
-    void (*prepare)(struct panel *panel, unsigned row);
+    page_kind *kind;
+    preparation *prepare;
     void (*repeat)(struct panel *panel, unsigned long round);
 };
 
@@ -73,6 +74,26 @@ static void repeat_unchanged(struct panel *panel, unsigned long round)
     put_cell(panel, panel->row, panel->column, panel->pages[0][panel->row][panel->column]);
 }
 
+/* The character alone changes, to the other page's and back. */
+static void repeat_printed(struct panel *panel, unsigned long round)
+{
+    panel->processor = panel->before;
+    print(panel, panel->pages[round % 2][panel->row][panel->column].c);
+}
+
+/* A hundred writes, twenty of each register that a cell needs. */
+static void repeat_register(struct panel *panel, unsigned long round)
+{
+    put_registers(panel, panel->row, panel->column, panel->pages[round % 2][panel->row][panel->column], 20);
+}
+
+static void repeat_phase(struct panel *panel, unsigned long round)
+{
+    (void)round;
+    panel->processor = panel->before;
+    turn(panel, 1 - panel->phase);
+}
+
 static void repeat_refill(struct panel *panel, unsigned long round)
 {
     put_page(panel, panel->pages[round % 2]);
@@ -81,16 +102,27 @@ static void repeat_refill(struct panel *panel, unsigned long round)
 
 /* The first is the floor. */
 static const struct scenario scenarios[] = {
-    {"copy", 1, prepare_drawn, repeat_copy},
-    {"redraw", 1, prepare_marked, repeat_redraw},
-    {"quadrichrome", 1, prepare_quadrichrome, repeat_redraw},
-    {"double", 1, prepare_double, repeat_redraw},
-    {"row", BINTURAMIS_ROWS, prepare_one_row, repeat_row},
-    {"unmarked", 1, prepare_drawn, repeat_unmarked},
-    {"changed", PAGES, prepare_drawn, repeat_changed},
-    {"unchanged", PAGES, prepare_changed, repeat_unchanged},
-    {"refill", 1, prepare_drawn, repeat_refill},
-    {"refill_single", 1, prepare_single, repeat_refill},
+    {"copy", 1, random_cells, prepare_drawn, repeat_copy},
+    {"redraw", 1, random_cells, prepare_marked, repeat_redraw},
+    {"redraw_text", 1, text, prepare_marked, repeat_redraw},
+    {"redraw_quadrichrome", 1, quadrichrome_cells, prepare_marked, repeat_redraw},
+    {"redraw_user", 1, user_cells, prepare_marked, repeat_redraw},
+    {"redraw_double", 1, double_cells, prepare_marked, repeat_redraw},
+    {"row", BINTURAMIS_ROWS, random_cells, prepare_one_row, repeat_row},
+    {"row_text", BINTURAMIS_ROWS, text, prepare_one_row, repeat_row},
+    {"unmarked", 1, random_cells, prepare_drawn, repeat_unmarked},
+    {"changed", PAGES, random_cells, prepare_drawn, repeat_changed},
+    {"changed_text", PAGES, text, prepare_drawn, repeat_changed},
+    {"changed_quadrichrome", PAGES, quadrichrome_cells, prepare_drawn, repeat_changed},
+    {"changed_user", PAGES, user_cells, prepare_drawn, repeat_changed},
+    {"printed", PAGES, text, prepare_printing, repeat_printed},
+    {"unchanged", PAGES, random_cells, prepare_changed, repeat_unchanged},
+    {"register", 1, random_cells, prepare_drawn, repeat_register},
+    {"phase", PAGES, random_cells, prepare_drawn, repeat_phase},
+    {"phase_text", PAGES, text, prepare_drawn, repeat_phase},
+    {"refill", 1, random_cells, prepare_drawn, repeat_refill},
+    {"refill_single", 1, single_cells, prepare_drawn, repeat_refill},
+    {"refill_text", 1, text, prepare_drawn, repeat_refill},
 };
 
 static const struct scenario *named(const char *name)
@@ -117,7 +149,7 @@ static void write_panels(const struct scenario *scenario)
 static void prepare(const struct scenario *scenario)
 {
     for (unsigned i = 0; i < scenario->panels; i++)
-        scenario->prepare(&panels[i], i % BINTURAMIS_ROWS);
+        scenario->prepare(&panels[i], scenario->kind, i % BINTURAMIS_ROWS);
     write_panels(scenario);
 }
 

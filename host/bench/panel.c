@@ -41,19 +41,34 @@ void put_indirect(struct panel *panel, uint8_t r, uint8_t value)
     put(panel, BINTURAMIS_R0 + BINTURAMIS_EXECUTE, BINTURAMIS_IND + r);
 }
 
-/*
- * The answers are asked all at once, so that the count is of the calls. The value of an accepted write is 0, and of these writes only those that
- * execute can be refused, all by the same number: so all answers joined are that of the refused ones.
- */
-void put_cell(struct panel *panel, unsigned row, unsigned column, struct cell cell)
+/* The registers of a cell, by writes that do not execute. Inline, so that the count is of these calls alone. */
+static inline uint32_t cell_written(struct panel *panel, unsigned row, unsigned column, struct cell cell)
 {
     uint32_t answers = written(panel, BINTURAMIS_R1, cell.c);
     answers |= written(panel, BINTURAMIS_R2, cell.b);
     answers |= written(panel, BINTURAMIS_R3, cell.a);
     answers |= written(panel, BINTURAMIS_R6, panel->rows[row].r6);
     answers |= written(panel, BINTURAMIS_R7, (uint8_t)(panel->rows[row].r7 + column));
+    return answers;
+}
+
+/*
+ * The answers are asked all at once, so that the count is of the calls. The value of an accepted write is 0, and of these writes only those that
+ * execute can be refused, all by the same number: so all answers joined are that of the refused ones.
+ */
+void put_cell(struct panel *panel, unsigned row, unsigned column, struct cell cell)
+{
+    uint32_t answers = cell_written(panel, row, column, cell);
     answers |= written(panel, BINTURAMIS_R0 + BINTURAMIS_EXECUTE, BINTURAMIS_KRF);
     expect_accepted("a write of a cell", answers);
+}
+
+void put_registers(struct panel *panel, unsigned row, unsigned column, struct cell cell, unsigned times)
+{
+    uint32_t answers = 0;
+    for (unsigned time = 0; time < times; time++)
+        answers |= cell_written(panel, row, column, cell);
+    expect_accepted("a write of a register", answers);
 }
 
 struct cell get_cell(struct panel *panel, unsigned row, unsigned column)
@@ -86,6 +101,17 @@ void put_page(struct panel *panel, struct cell page[BINTURAMIS_ROWS][BINTURAMIS_
             answers |= next_cell(panel, page[row][column]);
     }
     expect_accepted("a write of a page", answers);
+}
+
+void begin_printing(struct panel *panel, unsigned row, unsigned column, struct cell cell)
+{
+    put_registers(panel, row, column, cell, 1);
+    put(panel, BINTURAMIS_R0, BINTURAMIS_KRF + BINTURAMIS_INCREMENT);
+}
+
+void print(struct panel *panel, uint8_t c)
+{
+    put(panel, BINTURAMIS_R1 + BINTURAMIS_EXECUTE, c);
 }
 
 void turn(struct panel *panel, uint8_t phase)

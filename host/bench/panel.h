@@ -30,6 +30,7 @@ struct panel {
     struct cell pages[2][BINTURAMIS_ROWS][BINTURAMIS_COLUMNS];
     uint8_t row; /* of the cell that is changed alone */
     uint8_t column;
+    uint8_t phase; /* that the page is drawn with */
 };
 
 _Noreturn void fail(const char *what);
@@ -42,10 +43,19 @@ void put_indirect(struct panel *panel, uint8_t r, uint8_t value);
 /* KRF, by six writes of which the last executes. */
 void put_cell(struct panel *panel, unsigned row, unsigned column, struct cell cell);
 
+/* Its five writes that do not execute, so many times over. */
+void put_registers(struct panel *panel, unsigned row, unsigned column, struct cell cell, unsigned times);
+
 struct cell get_cell(struct panel *panel, unsigned row, unsigned column);
 
 /* KRF with increment, row after row: all cells of the screen. */
 void put_page(struct panel *panel, struct cell page[BINTURAMIS_ROWS][BINTURAMIS_COLUMNS]);
+
+/* Readies KRF with increment at a cell, whose B and A are written. */
+void begin_printing(struct panel *panel, unsigned row, unsigned column, struct cell cell);
+
+/* C, by one write, which executes. */
+void print(struct panel *panel, uint8_t c);
 
 void turn(struct panel *panel, uint8_t phase);
 

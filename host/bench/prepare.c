@@ -1,28 +1,12 @@
 /* Panels out of random bytes, prepared by the operations that a controller has. */
-#include <string.h>
-
 #include "prepare.h"
+#include "random.h"
+#include "text.h"
 
 #define QUADRICHROME 0xC0u /* both bits of B set */
+#define USER 0x80u         /* the upper of them alone, bit 5 clear or set: G'0 or G'1s */
 #define DOUBLE_HEIGHT 0x02u
 #define DOUBLE_SIZE 0x0Au /* as B: set G0, double height and double width */
-
-/* A shift generator: every run gets the same numbers. */
-static uint64_t state = 0x9345;
-
-static uint8_t random_byte(void)
-{
-    state ^= state << 13;
-    state ^= state >> 7;
-    state ^= state << 17;
-    return (uint8_t)(state >> 32);
-}
-
-static void fill(uint8_t *bytes, size_t count)
-{
-    for (size_t i = 0; i < count; i++)
-        bytes[i] = random_byte();
-}
 
 /* ROR has Z3, Z2 and Z1 of the first block in bits 7, 6 and 5 and the origin in the others. */
 static struct pointer row_pointer(uint8_t ror, unsigned row)
@@ -42,16 +26,10 @@ static void write_registers(struct panel *panel)
     put_indirect(panel, BINTURAMIS_PAT, random_byte() % 0x80);
     put_indirect(panel, BINTURAMIS_DOR, random_byte());
     put_indirect(panel, BINTURAMIS_ROR, ror);
-    turn(panel, random_byte() % 2);
+    panel->phase = random_byte() % 2;
+    turn(panel, panel->phase);
     for (unsigned row = 0; row < BINTURAMIS_ROWS; row++)
         panel->rows[row] = row_pointer(ror, row);
-}
-
-static struct cell single_height(struct cell cell)
-{
-    if ((cell.b & QUADRICHROME) != QUADRICHROME)
-        cell.b &= (uint8_t)~DOUBLE_HEIGHT;
-    return cell;
 }
 
 static uint8_t other_byte(uint8_t byte)
@@ -66,8 +44,7 @@ static struct cell other_cell(struct cell cell)
     return other;
 }
 
-/* The second page is what the memory has, the first one what is written over it. */
-static void take_pages(struct panel *panel)
+void random_cells(struct panel *panel)
 {
     for (unsigned row = 0; row < BINTURAMIS_ROWS; row++)
         for (unsigned column = 0; column < BINTURAMIS_COLUMNS; column++) {
@@ -77,15 +54,89 @@ static void take_pages(struct panel *panel)
         }
 }
 
-static void power_up(struct panel *panel, unsigned row)
+/* Both pages' cells of a row, each made into another. */
+static void make_row(struct panel *panel, unsigned row, struct cell (*made)(struct cell))
 {
+    for (unsigned page = 0; page < 2; page++)
+        for (unsigned column = 0; column < BINTURAMIS_COLUMNS; column++)
+            panel->pages[page][row][column] = made(panel->pages[page][row][column]);
+}
+
+static void make_random_cells(struct panel *panel, struct cell (*made)(struct cell))
+{
+    random_cells(panel);
+    for (unsigned row = 0; row < BINTURAMIS_ROWS; row++)
+        make_row(panel, row, made);
+}
+
+static struct cell single_height(struct cell cell)
+{
+    if ((cell.b & QUADRICHROME) != QUADRICHROME)
+        cell.b &= (uint8_t)~DOUBLE_HEIGHT;
+    return cell;
+}
+
+static struct cell quadrichrome(struct cell cell)
+{
+    cell.b |= QUADRICHROME;
+    return cell;
+}
+
+static struct cell of_user_set(struct cell cell)
+{
+    cell.b = (uint8_t)((cell.b & ~QUADRICHROME) | USER);
+    return cell;
+}
+
+static struct cell of_double_size(struct cell cell)
+{
+    (void)cell;
+    return (struct cell){DOUBLE_SIZE, DOUBLE_SIZE, DOUBLE_SIZE};
+}
+
+void single_cells(struct panel *panel)
+{
+    make_random_cells(panel, single_height);
+}
+
+void quadrichrome_cells(struct panel *panel)
+{
+    make_random_cells(panel, quadrichrome);
+}
+
+void user_cells(struct panel *panel)
+{
+    make_random_cells(panel, of_user_set);
+}
+
+void double_cells(struct panel *panel)
+{
+    make_random_cells(panel, of_double_size);
+}
+
+/* Text has blanks at the same places and colours that are the same: pages are tried until the cell that is changed alone has neither. */
+void text(struct panel *panel)
+{
+    struct cell *cells[2];
+    do {
+        for (unsigned page = 0; page < 2; page++) {
+            write_text(panel->pages[page]);
+            cells[page] = &panel->pages[page][panel->row][panel->column];
+        }
+    } while (cells[0]->c == cells[1]->c || cells[0]->a == cells[1]->a);
+}
+
+void prepare_marked(struct panel *panel, page_kind *kind, unsigned row)
+{
+    fill(panel->memory, sizeof panel->memory);
     fill(panel->rom, sizeof panel->rom);
     fill(panel->picture, sizeof panel->picture);
     panel->row = (uint8_t)row;
     panel->column = random_byte() % BINTURAMIS_COLUMNS;
     binturamis_power_up(&panel->processor);
     write_registers(panel);
-    take_pages(panel);
+    kind(panel);
+    put_page(panel, panel->pages[1]);
     panel->before = panel->processor;
 }
 
@@ -95,54 +146,9 @@ static void draw_first(struct panel *panel)
     panel->before = panel->processor;
 }
 
-void prepare_marked(struct panel *panel, unsigned row)
+void prepare_drawn(struct panel *panel, page_kind *kind, unsigned row)
 {
-    fill(panel->memory, sizeof panel->memory);
-    power_up(panel, row);
-}
-
-void prepare_double(struct panel *panel, unsigned row)
-{
-    memset(panel->memory, DOUBLE_SIZE, sizeof panel->memory);
-    power_up(panel, row);
-}
-
-void prepare_drawn(struct panel *panel, unsigned row)
-{
-    prepare_marked(panel, row);
-    draw_first(panel);
-}
-
-static struct cell quadrichrome(struct cell cell)
-{
-    cell.b |= QUADRICHROME;
-    return cell;
-}
-
-/* The palettes and the slices stay random, so palettes of every length are met. */
-void prepare_quadrichrome(struct panel *panel, unsigned row)
-{
-    prepare_marked(panel, row);
-    for (unsigned each = 0; each < BINTURAMIS_ROWS; each++)
-        for (unsigned column = 0; column < BINTURAMIS_COLUMNS; column++)
-            put_cell(panel, each, column, quadrichrome(panel->pages[1][each][column]));
-    panel->before = panel->processor;
-}
-
-static void make_single(struct panel *panel, unsigned row)
-{
-    for (unsigned column = 0; column < BINTURAMIS_COLUMNS; column++) {
-        for (unsigned page = 0; page < 2; page++)
-            panel->pages[page][row][column] = single_height(panel->pages[page][row][column]);
-        put_cell(panel, row, column, panel->pages[1][row][column]);
-    }
-}
-
-void prepare_single(struct panel *panel, unsigned row)
-{
-    prepare_marked(panel, row);
-    for (unsigned each = 0; each < BINTURAMIS_ROWS; each++)
-        make_single(panel, each);
+    prepare_marked(panel, kind, row);
     draw_first(panel);
 }
 
@@ -164,21 +170,34 @@ static unsigned marked_rows(const struct panel *panel)
     return count;
 }
 
+static void make_row_below_single(struct panel *panel)
+{
+    if (panel->row + 1u < BINTURAMIS_ROWS)
+        make_row(panel, panel->row + 1u, single_height);
+    put_page(panel, panel->pages[1]);
+}
+
 /* The row below must not reach up, and no cell may have its slices where the change is: pages are tried until it is so. */
-void prepare_one_row(struct panel *panel, unsigned row)
+void prepare_one_row(struct panel *panel, page_kind *kind, unsigned row)
 {
     do {
-        prepare_marked(panel, row);
-        if (row + 1 < BINTURAMIS_ROWS)
-            make_single(panel, row + 1);
+        prepare_marked(panel, kind, row);
+        make_row_below_single(panel);
         draw_first(panel);
         change_cell(panel);
     } while (marked_rows(panel) != 1);
 }
 
-void prepare_changed(struct panel *panel, unsigned row)
+void prepare_changed(struct panel *panel, page_kind *kind, unsigned row)
 {
-    prepare_drawn(panel, row);
+    prepare_drawn(panel, kind, row);
     change_cell(panel);
     marked_rows(panel);
+}
+
+void prepare_printing(struct panel *panel, page_kind *kind, unsigned row)
+{
+    prepare_drawn(panel, kind, row);
+    begin_printing(panel, row, panel->column, panel->pages[1][row][panel->column]);
+    panel->before = panel->processor;
 }
