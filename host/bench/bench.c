@@ -153,10 +153,22 @@ static void prepare(const struct scenario *scenario)
     write_panels(scenario);
 }
 
+/*
+ * What counts the instructions knows by its calls where a repetition begins and the one before it ends. So it must be neither inlined nor
+ * dropped.
+ */
+__attribute__((noinline)) static void begin_repetition(void)
+{
+    __asm__ volatile("");
+}
+
 static void repeat(const struct scenario *scenario, unsigned long repetitions)
 {
-    for (unsigned long i = 0; i < repetitions; i++)
+    for (unsigned long i = 0; i < repetitions; i++) {
+        begin_repetition();
         scenario->repeat(&panels[i % scenario->panels], i / scenario->panels);
+    }
+    begin_repetition();
 }
 
 static void repeat_and_write(const struct scenario *scenario, const char *word)

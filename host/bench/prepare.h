@@ -2,7 +2,7 @@
  * How the panels are prepared that the scenarios of the benchmark begin with. The same panels are made in every run.
  *
  * A kind of page says what a panel's two pages hold: the second is what the memory has, the first one what is written over it. The panel has
- * its registers and random memory by then, and the row of the cell that is changed alone. That cell differs in its character at least.
+ * its registers and random memory by then, and the place of the cell that is changed alone. That cell differs in its character at least.
  */
 #ifndef PREPARE_H
 #define PREPARE_H
@@ -23,7 +23,7 @@ page_kind quadrichrome_cells;
 /* The same with cells of the user sets alone, G'0 and both G'1s. */
 page_kind user_cells;
 
-/* One cell of double height and double width everywhere. */
+/* One cell of double height and double width everywhere, on both pages: here no cell can be changed. */
 page_kind double_cells;
 
 /* Two pages of text. The cell that is changed alone differs in its colour too. */
