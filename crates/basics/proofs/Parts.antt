@@ -71,6 +71,13 @@ module _ {A : Type 0} where
       ∙ joined-part k part n (λ j l. e j (omega arith)) i l)
       (eq-or-lt-of-le (le-of-suc-le-suc h))
 
+  -- the first i parts of the joined list
+  pub joined-front : (k : ℕ) (part : ℕ → List A) (n : ℕ) → Each k part n → (i : ℕ) → i ≤ n → take (k * i) (joined part n) ≡ joined part i
+  joined-front k part n e i h =
+      let m : k * i ≤ k * n = mul-le-mul-left k h in
+      sym (parts-joined k (joined part n) i (omega (arith, length-joined k part n e)))
+      ∙ joined-same _ _ i (λ j l. joined-part k part n e j (omega arith))
+
   -- element k * i + j is element j of part i
   pub joined-at :
       (k : ℕ) (part : ℕ → List A) (n : ℕ) → Each k part n → (i j : ℕ) (d : A) → i < n → j < k → getD (joined part n) (k * i + j) d ≡ getD (part i) j d

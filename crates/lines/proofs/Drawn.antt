@@ -7,12 +7,12 @@ use mathlib.Core.List.{List, []}
 use native.Mathlib.Omega.{arith}
 use lib.Dec.{eqb}
 use lib.ListN.{length, getD, take, drop, replicate}
-use lib.Seq.{take-at}
+use lib.Seq.{take-append-le}
 use Rattle.basics.specs.Bits.{fromBits}
 use Rattle.basics.specs.Parts.{joined}
 use Rattle.basics.proofs.Choice.{pick-known}
 use Rattle.basics.proofs.Filled.{filled, length-filled}
-use Rattle.basics.proofs.Parts.{length-table, length-joined, table-at, joined-same}
+use Rattle.basics.proofs.Parts.{length-table, length-joined, joined-front, table-at, joined-same}
 use Rattle.shown.specs.declared.Shown.{Shown}
 use Rattle.shown.specs.Lengths.{columnBytes, lineBytes}
 use Rattle.cell.specs.declared.kind.Cell.{Cell}
@@ -43,11 +43,14 @@ module _ (bytes pairs line : List ℕ) (begun : line ≡ filled columnBytes (fou
       let h : columnBytes * 32 ≤ lineBytes columnBytes = omega arith in
       ap length begun ∙ length-filled columnBytes (fourOf bytes pairs) (replicate (lineBytes columnBytes) 0) 32 (λ x l. four-long _ _) h
 
-  pub begun-front : take (columnBytes * 32) line ≡ joined (fourOf bytes pairs) 32
-  begun-front =
-      ap (take (columnBytes * 32)) begun
-      ∙ take-at (joined (fourOf bytes pairs) 32) (drop (columnBytes * 32) (replicate (lineBytes columnBytes) 0)) (columnBytes * 32)
-      (length-joined columnBytes (fourOf bytes pairs) 32 (λ j l. four-long _ _))
+  -- the third vector begins at any cell of these
+  pub begun-front : (i : ℕ) → i ≤ 32 → take (columnBytes * i) line ≡ joined (fourOf bytes pairs) i
+  begun-front i h =
+      let packed = joined (fourOf bytes pairs) 32 in
+      let long : length packed ≡ columnBytes * 32 = length-joined columnBytes (fourOf bytes pairs) 32 (λ j l. four-long _ _) in
+      ap (take (columnBytes * i)) begun
+      ∙ take-append-le (columnBytes * i) packed (drop (columnBytes * 32) (replicate (lineBytes columnBytes) 0)) (omega arith)
+      ∙ joined-front columnBytes (fourOf bytes pairs) 32 (λ j l. four-long _ _) i h
 
 -- a cell has four pairs
 pairs-four : (cell : Cell) (shown : Shown) → length (cellPairs cell shown) ≡ 4

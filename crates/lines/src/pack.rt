@@ -51,12 +51,13 @@ fn pack(line: &mut [u8; 160], bytes: [u8; 40], pairs: &[u8; 160], first: usize, 
     }
 }
 
-// The packed line of forty cells. Thirty-two are a whole number of vectors, and the rest is packed apart.
+// The packed line of forty cells. A vector has sixteen, so the third begins among cells that are packed already: to pack eight of them once
+// more costs less than to pack the last eight one by one.
 pub fn packed_line(bytes: [u8; 40], pairs: &[u8; 160]) -> [u8; 160]
     ensures { λ r. ⌜ r ≡ joined (fourOf bytes (now (pairs .entry))) 40 ⌝ }
 {
     let mut line = [0u8; 160];
     pack(&mut line, bytes, pairs, 0, 32);
-    pack(&mut line, bytes, pairs, 32, 40);
+    pack(&mut line, bytes, pairs, 24, 40);
     line
 }

@@ -16,7 +16,7 @@ pack-requires-2 c κs = let k = c .before in
       begun-long (a .bytes) (a .pairs .now) (k .pack .last .0) (k .pack .ensures),
       omega arith,
       omega arith,
-      begun-front (a .bytes) (a .pairs .now) (k .pack .last .0) (k .pack .ensures),
+      begun-front (a .bytes) (a .pairs .now) (k .pack .last .0) (k .pack .ensures) 24 (omega arith),
     )
 
 returns : tie.Need-returns
