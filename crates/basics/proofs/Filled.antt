@@ -5,7 +5,7 @@
 use Prim.Native.Nat.{ℕ, suc, _+_, _-_, _*_, _≤_, _<_}
 use mathlib.Core.Path.{_≡_, refl, sym, ap, _∙_}
 use mathlib.Core.List.{List, [], _∷_, _++_, append-assoc, append-nil}
-use native.Mathlib.Nat.{mul-zero, mul-suc, mul-le-mul-left}
+use native.Mathlib.Nat.{mul-zero, mul-suc, mul-le-mul-left, one-mul}
 use native.Mathlib.Numerals.{add-one}
 use native.Mathlib.Omega.{arith}
 use lib.ListN.{length, getD, set, take, drop, length-append, length-drop, take-append-drop, drop-of-length-le}
@@ -13,7 +13,7 @@ use lib.Seq.{take-at, drop-at, drop-drop, take-suc, take-suc-set, take-all, leng
 use borrow.Rule.Slice.PartMut.{putMid, midOf, same-len-mid}
 use Rattle.basics.specs.Parts.{joined, table, partOf}
 use Rattle.basics.proofs.Few.{four}
-use Rattle.basics.proofs.Parts.{Each, joined-zero, joined-more, length-joined, table-at}
+use Rattle.basics.proofs.Parts.{Each, joined-zero, joined-more, length-joined, length-table, table-at}
 
 module _ {A : Type 0} where
   -- A lent slice: the first i parts, and then what stood there.
@@ -58,6 +58,28 @@ module _ {A : Type 0} where
       ∙ ap (λ (z : ℕ). front ++ (ys ++ drop z rest)) qw
       ∙ ap (λ (z : List A). front ++ (ys ++ z)) (drop-drop k (k * i) xs₀)
       ∙ seam k part xs₀ ys i y
+
+  -- One element a turn: j is i to begin with, and one more after a turn.
+  pub filled-front :
+      (f : ℕ → A) (xs₀ : List A) (i j : ℕ) → j ≡ i → take i xs₀ ≡ table f i → xs₀ ≡ filled 1 (λ n. f n ∷ []) xs₀ j
+  filled-front f xs₀ i j e q =
+      sym (take-append-drop i xs₀)
+      ∙ ap (λ (z : List A). z ++ drop i xs₀) q
+      ∙ ap (λ (m : ℕ). table f i ++ drop m xs₀) (sym (one-mul i))
+      ∙ ap (filled 1 (λ n. f n ∷ []) xs₀) (sym e)
+
+  pub filled-next :
+      (f : ℕ → A) (xs₀ xs : List A) (i : ℕ) (v : A) (j : ℕ)
+      → j ≡ i + 1 → i < length xs → xs ≡ filled 1 (λ n. f n ∷ []) xs₀ i → v ≡ f i → set xs i v ≡ filled 1 (λ n. f n ∷ []) xs₀ j
+  filled-next f xs₀ xs i v j k l q e =
+      sets-eq (v ∷ []) xs i (omega arith)
+      ∙ append-assoc (take i xs) (v ∷ []) (drop (i + 1) xs)
+      ∙ ap (λ (z : List A). take i xs ++ ((v ∷ []) ++ z)) (sym (drop-drop 1 i xs))
+      ∙ filled-part 1 (λ n. f n ∷ []) xs₀ xs (v ∷ []) i i 1 (λ n h. refl) q (ap (λ (z : A). z ∷ []) e) (sym (one-mul i)) refl
+      ∙ ap (filled 1 (λ n. f n ∷ []) xs₀) (sym k)
+
+  pub filled-take : (f : ℕ → A) (xs₀ xs : List A) (i : ℕ) → xs ≡ filled 1 (λ n. f n ∷ []) xs₀ i → take i xs ≡ table f i
+  filled-take f xs₀ xs i q = ap (take i) q ∙ take-at (table f i) (drop (1 * i) xs₀) i (length-table f i)
 
   pub filled-end :
       (k : ℕ) (part : ℕ → List A) (xs₀ xs : List A) (n i : ℕ) → xs ≡ filled k part xs₀ i → i ≤ n → n ≤ i → length xs₀ ≡ k * n → xs ≡ joined part n

@@ -1,22 +1,27 @@
 -- Laws of halves.
 -- Assumes nothing.
 use Prim.Native.Nat.{ℕ, zero, suc, _-_, _<_, _≤_}
-use mathlib.Core.Path.{_≡_, refl, sym, ap, ap₂, _∙_}
+use mathlib.Core.Path.{_≡_, refl, sym, ap, _∙_}
 use mathlib.Core.Bool.{Bool, false, not, _&&_}
 use mathlib.Core.List.{List, []}
+use mathlib.Core.Logic.{⊎-elim}
 use native.Mathlib.Omega.{arith}
 use lib.Dec.{eqb}
 use lib.ListN.{getD, take}
 use borrow.Author.Tests.{eq-eqb}
 use Rattle.basics.specs.Below.{anyBelow}
 use Rattle.basics.specs.Parts.{table}
-use Rattle.basics.proofs.Below.{any-not}
+use Rattle.basics.proofs.Choice.{eq-or-ne}
+use Rattle.basics.proofs.Below.{any-not, any-same}
 use Rattle.basics.proofs.Parts.{table-at, table-same}
 use Rattle.basics.proofs.Filled.{table-front}
-use Rattle.page.specs.Codes.{codeAt, rowBuffer}
+use Rattle.address.specs.Rows.{rowY}
 use Rattle.shown.specs.declared.Shown.{Shown}
+use Rattle.shown.specs.Origins.{yorOf, firstBlock}
+use Rattle.page.specs.Codes.{codeOf, codeAt, rowBuffer}
 use Rattle.page.specs.Halves.{isTall, isWide, sameCode, goesOn, secondHalf, lowerHalf, rightHalf, lowerHalves}
-use Rattle.page.specs.HowHalves.{rightIn, goesOnAt, nextLowerAt}
+use Rattle.page.specs.HowHalves.{rightIn, goesOnIn, goesOnAt, nextLowerIn, nextLowerAt}
+use Rattle.page.proofs.Codes.{buffer}
 
 -- the third byte decides where the first two are the same
 pub third : (a b : List ℕ) → getD a 0 0 ≡ getD b 0 0 → getD a 1 0 ≡ getD b 1 0 → eqb (getD a 2 0) (getD b 2 0) ≡ sameCode a b
@@ -57,36 +62,52 @@ pub right-turn :
 right-turn cells x halves w on l ew eo et =
     rw (eo, ew, table-front (rightIn cells) halves x (x - 1) false et (omega arith)) (half-next isWide (λ i. getD cells i []) x l)
 
--- and down a column, over row buffers
-pub tall-turn :
-    (here above : List (List ℕ)) (x : ℕ) (w on : Bool)
-    → w ≡ isTall (getD here x []) → on ≡ goesOn w (getD here x []) (getD above x []) → on ≡ goesOnAt here above x
-tall-turn here above x w on ew eo = eo ∙ ap (λ (t : Bool). goesOn t (getD here x []) (getD above x [])) ew
+-- where no cell of a row is of double width, no right half is shown
+pub right-none :
+    (shown : Shown) (m : List ℕ) (r z y yor : ℕ) (cells : List (List ℕ)) → cells ≡ rowBuffer shown m r → z ≡ firstBlock shown → y ≡ rowY yor r → yor ≡ yorOf shown
+    → anyBelow (λ x. isWide (codeOf m z y x)) 40 ≡ false → table (λ x. false) 40 ≡ table (rightIn cells) 40
+right-none shown m r z y yor cells is-cells ez ey eo none = table-same _ _ 40 (λ x l. sym (single x l))
+  where
+    wide : (x : ℕ) → x < 40 → isWide (getD cells x []) ≡ false
+    wide x l =
+        rw (is-cells ∙ sym (buffer shown m r z y yor ez ey eo), table-at (codeOf m z y) 40 x [] l) (any-not (λ i. isWide (codeOf m z y i)) 40 x none l)
+
+    single : (x : ℕ) → x < 40 → rightIn cells x ≡ false
+    single x l =
+        ⊎-elim
+        (λ (e : x ≡ 0). rw e (first-half isWide (λ i. getD cells i [])))
+        (λ n. sym (half-next isWide (λ i. getD cells i []) x (omega (arith, n))) ∙ rw (wide x l))
+        (eq-or-ne x 0)
 
 -- the three ways of a row's lower halves
 module _ (shown : Shown) (m : List ℕ) (r : ℕ) where
   pub lower-service : r ≡ 0 → table (λ x. false) 40 ≡ lowerHalves shown m r
   lower-service e = table-same _ _ 40 (λ x l. rw e (sym (first-half isTall _)))
 
-  module _
-      (low : r ≡ 0 → ⊥) (here above : List (List ℕ)) (is-here : here ≡ rowBuffer shown m r) (is-above : above ≡ rowBuffer shown m (r - 1))
-    where
-      pos : 0 < r
-      pos = omega (arith, low)
+  module _ (pos : 0 < r) where
+    pub lower-next : (halves : List Bool) → halves ≡ lowerHalves shown m (r - 1) → table (nextLowerAt shown m r halves) 40 ≡ lowerHalves shown m r
+    lower-next halves e =
+        table-same _ _ 40
+        (λ x l.
+        ap (λ (b : Bool). goesOnAt shown m r x && not b) (ap (λ (h : List Bool). getD h x false) e ∙ table-at (lowerHalf shown m (r - 1)) 40 x false l)
+        ∙ half-next isTall (λ i. codeAt shown m i x) r pos)
 
-      goes : (x : ℕ) → x < 40 → goesOnAt here above x ≡ goesOn (isTall (codeAt shown m r x)) (codeAt shown m r x) (codeAt shown m (r - 1) x)
-      goes x l = rw (is-here, is-above, table-at (codeAt shown m r) 40 x [] l, table-at (codeAt shown m (r - 1)) 40 x [] l)
+    pub lower-none : anyBelow (goesOnAt shown m r) 40 ≡ false → table (λ x. false) 40 ≡ lowerHalves shown m r
+    lower-none e =
+        table-same _ _ 40
+        (λ x l.
+        ap (λ (a : Bool). a && not (lowerHalf shown m (r - 1) x)) (sym (any-not (goesOnAt shown m r) 40 x e l))
+        ∙ half-next isTall (λ i. codeAt shown m i x) r pos)
 
-      pub lower-next : (halves : List Bool) → halves ≡ lowerHalves shown m (r - 1) → table (nextLowerAt here above halves) 40 ≡ lowerHalves shown m r
-      lower-next halves e =
-          table-same _ _ 40
-          (λ x l.
-          ap₂ (λ a b. a && not b) (goes x l) (ap (λ (h : List Bool). getD h x false) e ∙ table-at (lowerHalf shown m (r - 1)) 40 x false l)
-          ∙ half-next isTall (λ i. codeAt shown m i x) r pos)
+-- the cells of a row and of the row above it, by the block and the Ys that the code has
+module _
+    (shown : Shown) (m : List ℕ) (r z y u yor : ℕ) (ez : z ≡ firstBlock shown) (ey : y ≡ rowY yor r) (eu : u ≡ rowY yor (r - 1)) (eo : yor ≡ yorOf shown)
+  where
+    on-row : (x : ℕ) → goesOnIn m z y u x ≡ goesOnAt shown m r x
+    on-row x = rw (ez, ey, eu, eo)
 
-      pub lower-none : anyBelow (goesOnAt here above) 40 ≡ false → table (λ x. false) 40 ≡ lowerHalves shown m r
-      lower-none e =
-          table-same _ _ 40
-          (λ x l.
-          ap (λ (a : Bool). a && not (lowerHalf shown m (r - 1) x)) (sym (any-not (goesOnAt here above) 40 x e l) ∙ goes x l)
-          ∙ half-next isTall (λ i. codeAt shown m i x) r pos)
+    pub on-rows : anyBelow (goesOnIn m z y u) 40 ≡ anyBelow (goesOnAt shown m r) 40
+    on-rows = any-same _ _ 40 (λ x l. on-row x)
+
+    pub lower-rows : (lowers : List Bool) → table (nextLowerIn m z y u lowers) 40 ≡ table (nextLowerAt shown m r lowers) 40
+    lower-rows lowers = table-same _ _ 40 (λ x l. ap (λ (t : Bool). t && not (getD lowers x false)) (on-row x))

@@ -1,3 +1,4 @@
 pub mod Codes
+pub mod Stretches
 pub mod Halves
 pub mod SliceSources

@@ -1,28 +1,44 @@
--- How the code asks for halves, over row buffers. Nothing here has to be believed: `right-row` and `lower-next` of proofs/Halves.antt show
--- that it gives the halves of Halves.antt.
+-- How the code asks for halves: of the row buffer along a row, of the bytes in memory down a column. Nothing here has to be believed:
+-- `right-row` and `lower-next` of proofs/Halves.antt show that it gives the halves of Halves.antt.
 -- Assumes nothing.
-use Prim.Native.Nat.{ℕ, _-_, _<_}
+use Prim.Native.Nat.{ℕ, _+_, _-_, _<_, _≤_}
 use mathlib.Core.Path.{_≡_}
 use mathlib.Core.Bool.{Bool, true, false, not, _&&_}
-use mathlib.Core.List.{List, []}
+use mathlib.Core.List.{List, [], _∷_}
 use lib.ListN.{getD}
+use Rattle.address.specs.Boards.{memoryBytes}
 use Rattle.shown.specs.declared.Shown.{Shown}
-use Rattle.page.specs.Codes.{rowBuffer}
+use Rattle.page.specs.Codes.{codeOf, codeAt}
 use Rattle.page.specs.Halves.{isTall, isWide, goesOn, secondHalf, lowerHalves}
+use Rattle.page.specs.declared.stretch.Starts.{Starts}
 
 -- the right half of a cell of a buffer
 abbrev pub rightIn : List (List ℕ) → ℕ → Bool
 rightIn cells x = secondHalf isWide (λ i. getD cells i []) x
 
--- a cell goes on from the one above it
-abbrev pub goesOnAt : List (List ℕ) → List (List ℕ) → ℕ → Bool
-goesOnAt here above x = goesOn (isTall (getD here x [])) (getD here x []) (getD above x [])
+-- n cells of a stretch are in memory
+abbrev pub Within : Starts → ℕ → Type 0
+Within s n = (s .c + n ≤ memoryBytes) × (s .b + n ≤ memoryBytes) × (s .a + n ≤ memoryBytes)
 
--- the lower half of a cell, from those of the row above
-abbrev pub nextLowerAt : List (List ℕ) → List (List ℕ) → List Bool → ℕ → Bool
-nextLowerAt here above lowers x = goesOnAt here above x && not (getD lowers x false)
+-- the three bytes of cell i of a stretch
+abbrev pub codeFrom : List ℕ → Starts → ℕ → List ℕ
+codeFrom m s i = getD m (s .c + i) 0 ∷ getD m (s .b + i) 0 ∷ getD m (s .a + i) 0 ∷ []
 
--- where they are known, these are the row buffer and the lower halves of the row above row r
-abbrev pub KnownAbove : Shown → List ℕ → ℕ → Bool → List (List ℕ) → List Bool → Type 0
-KnownAbove shown m r known above lowers =
-    known ≡ true → (0 < r) × (above ≡ rowBuffer shown m (r - 1)) × (lowers ≡ lowerHalves shown m (r - 1))
+-- a cell of the row at y goes on from the one above it, in the row at u
+abbrev pub goesOnIn : List ℕ → ℕ → ℕ → ℕ → ℕ → Bool
+goesOnIn m z y u x = goesOn (isTall (codeOf m z y x)) (codeOf m z y x) (codeOf m z u x)
+
+-- its lower half, from those of the row above
+abbrev pub nextLowerIn : List ℕ → ℕ → ℕ → ℕ → List Bool → ℕ → Bool
+nextLowerIn m z y u lowers x = goesOnIn m z y u x && not (getD lowers x false)
+
+-- the same of screen row r, which is not the first
+abbrev pub goesOnAt : Shown → List ℕ → ℕ → ℕ → Bool
+goesOnAt shown m r x = goesOn (isTall (codeAt shown m r x)) (codeAt shown m r x) (codeAt shown m (r - 1) x)
+
+abbrev pub nextLowerAt : Shown → List ℕ → ℕ → List Bool → ℕ → Bool
+nextLowerAt shown m r lowers x = goesOnAt shown m r x && not (getD lowers x false)
+
+-- where they are known, these are the lower halves of the row above row r
+abbrev pub KnownAbove : Shown → List ℕ → ℕ → Bool → List Bool → Type 0
+KnownAbove shown m r known lowers = known ≡ true → (0 < r) × (lowers ≡ lowerHalves shown m (r - 1))

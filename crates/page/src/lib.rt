@@ -2,3 +2,4 @@
 pub mod code;
 pub mod half;
 pub mod source;
+pub mod stretch;

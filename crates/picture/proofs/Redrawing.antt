@@ -82,15 +82,11 @@ module _
 
 -- what the loop knows of the row above: nothing, or the row that it has just drawn
 module _ (m : List ℕ) (shown : Shown) (r : ℕ) where
-  pub not-known : (cells : List (List ℕ)) (lowers : List Bool) → KnownAbove shown m r false cells lowers
-  not-known cells lowers e = absurd (false≢true e)
+  pub not-known : (lowers : List Bool) → KnownAbove shown m r false lowers
+  not-known lowers e = absurd (false≢true e)
 
-  pub known-next :
-      (cells : List (List ℕ)) (lowers : List Bool)
-      → cells ≡ rowBuffer shown m r → lowers ≡ lowerHalves shown m r → KnownAbove shown m (r + 1) true cells lowers
-  known-next cells lowers b h e =
-      let back : r + 1 - 1 ≡ r = omega arith in
-      (omega arith, b ∙ ap (rowBuffer shown m) (sym back), h ∙ ap (lowerHalves shown m) (sym back))
+  pub known-next : (lowers : List Bool) → lowers ≡ lowerHalves shown m r → KnownAbove shown m (r + 1) true lowers
+  known-next lowers h e = let back : r + 1 - 1 ≡ r = omega arith in (omega arith, h ∙ ap (lowerHalves shown m) (sym back))
 
 pub fresh-part : (m rom : List ℕ) (shown : Shown) (r : ℕ) → r < 25 → partOf (rowBytes columnBytes) (fresh m rom shown) r ≡ rowOf m rom shown r
 unfolding fresh

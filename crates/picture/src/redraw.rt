@@ -9,6 +9,7 @@ ghost use Rattle.picture.specs.Redraws.{redrawn};
 use crate::row::draw_row;
 use page::code::row_buffer;
 use page::half::lower_halves_after;
+use page::half::right_halves_of;
 use shown::Shown;
 use shown::length::ROW_BYTES;
 
@@ -23,7 +24,7 @@ fn some_marked(marks: [bool; 25]) -> bool
     found
 }
 
-// Row by row. The row buffer and the lower halves of a row that was just drawn are kept for the row below it.
+// Row by row. The lower halves of a row that was just drawn are kept for the row below it.
 fn redraw_rows(
     picture: &mut [u8],
     memory: &[u8],
@@ -36,7 +37,6 @@ fn redraw_rows(
 {
     let mut rows = 0;
     let mut known = false;
-    let mut above = [[0u8; 3]; 40];
     let mut halves = [false; 40];
     for r in 0..25 {
         if !marks[r] {
@@ -44,7 +44,8 @@ fn redraw_rows(
             continue;
         }
         let here = row_buffer(memory, shown, r as u8);
-        let lowers = lower_halves_after(memory, shown, r as u8, here, known, above, halves);
+        let lowers = lower_halves_after(memory, shown, r as u8, known, halves);
+        let rights = right_halves_of(memory, shown, r as u8, here);
         draw_row(
             &mut picture[ROW_BYTES * r..ROW_BYTES * r + ROW_BYTES],
             memory,
@@ -52,8 +53,8 @@ fn redraw_rows(
             shown,
             here,
             lowers,
+            rights,
         );
-        above = here;
         halves = lowers;
         known = true;
         rows += 1;

@@ -1,16 +1,16 @@
 // The row drawer: the ten lines of a row, drawn in the part of the picture that is lent for it.
 ghost use mathlib.Core.Path.{_≡_};
 ghost use lib.ListN.{length};
-ghost use Rattle.basics.specs.Parts.{joined};
+ghost use Rattle.basics.specs.Parts.{table, joined};
 ghost use Rattle.address.specs.Boards.{memoryBytes};
 ghost use Rattle.shown.specs.Lengths.{romBytes, columnBytes, lineBytes, rowBytes};
+ghost use Rattle.page.specs.HowHalves.{rightIn};
 ghost use Rattle.lines.specs.HowLines.{lineOn};
 ghost use Rattle.picture.specs.Rows.{painted};
 ghost use Rattle.picture.specs.HowRows.{inputsOf};
 use columns::pairs::pairs_of;
 use columns::ten::tens_of;
 use lines::line::line;
-use page::half::right_halves;
 use shown::Shown;
 use shown::length::LINE_BYTES;
 
@@ -44,7 +44,7 @@ fn draw_lines(
     }
 }
 
-// A row in its part of the picture, from its row buffer and its lower halves.
+// A row in its part of the picture, from its row buffer and its halves.
 pub fn draw_row(
     part: &mut [u8],
     memory: &[u8],
@@ -52,11 +52,11 @@ pub fn draw_row(
     shown: Shown,
     cells: [[u8; 3]; 40],
     lowers: [bool; 40],
+    rights: [bool; 40],
 )
-    requires { ⌜ (length (now part) ≡ rowBytes columnBytes) × (length (now memory) ≡ memoryBytes) × (length (now rom) ≡ romBytes) ⌝ }
+    requires { ⌜ (length (now part) ≡ rowBytes columnBytes) × (length (now memory) ≡ memoryBytes) × (length (now rom) ≡ romBytes) × (rights ≡ table (rightIn cells) 40) ⌝ }
     ensures { λ _. ⌜ now (part .exit) ≡ painted (now (rom .entry)) shown (inputsOf (now (memory .entry)) shown cells lowers) ⌝ }
 {
-    let rights = right_halves(cells);
     let tens = tens_of(memory, rom, shown, cells, lowers, rights);
     let pairs = pairs_of(cells, shown);
     draw_lines(part, cells, lowers, &tens, &pairs);

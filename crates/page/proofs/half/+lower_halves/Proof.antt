@@ -9,9 +9,8 @@ use borrow.Fn.PlainCycle.{Measures, is, falls, and}
 use Rattle.page.proofs.half.lower_halves.Reads as lower-halves
 use Rattle.page.proofs.half.lower_halves.Kinds as lower-halves-kinds
 use Rattle.page.proofs.half.+lower_halves.Lts-lower_halves as lower-halves-lts
-use Rattle.page.proofs.code.row_buffer.Reads as row-buffer-reads
-use Rattle.page.proofs.half.some_go_on.Reads as some-go-on-reads
 use Rattle.page.proofs.half.next_lowers.Reads as next-lowers-reads
+use Rattle.page.proofs.half.some_go_on.Reads as some-go-on-reads
 use Rattle.page.proofs.half.+lower_halves.{statement}
 use Rattle.page.proofs.half.+lower_halves.Tie.{close}
 
@@ -31,8 +30,6 @@ lower-halves-below t =
     lower-halves.Pre
 
 lower-halves-returns : (t : ℕ) → lower-halves-lts.Need-returns (
-  row-buffer-reads.Asked,
-  row-buffer-reads.Learnt,
   some-go-on-reads.Asked,
   some-go-on-reads.Learnt,
   lower-halves-below t,
@@ -43,33 +40,7 @@ lower-halves-returns : (t : ℕ) → lower-halves-lts.Need-returns (
 unfolding joined
 lower-halves-returns t c = lower-service (c .before .before .args .shown) _ _ (c .if1 .taken)
 
-lower-halves-sub-row-buffer : (t : ℕ) → lower-halves-lts.Need-sub-row-buffer (
-  row-buffer-reads.Asked,
-  row-buffer-reads.Learnt,
-  some-go-on-reads.Asked,
-  some-go-on-reads.Learnt,
-  lower-halves-below t,
-  lower-halves.Post,
-  next-lowers-reads.Asked,
-  next-lowers-reads.Learnt,
-) (lower-halves-at t) lower-halves.Post
-lower-halves-sub-row-buffer t c = search needs
-
-lower-halves-row-buffer-requires : (t : ℕ) → lower-halves-lts.Need-row-buffer-requires (
-  row-buffer-reads.Asked,
-  row-buffer-reads.Learnt,
-  some-go-on-reads.Asked,
-  some-go-on-reads.Learnt,
-  lower-halves-below t,
-  lower-halves.Post,
-  next-lowers-reads.Asked,
-  next-lowers-reads.Learnt,
-) (lower-halves-at t) lower-halves.Post
-lower-halves-row-buffer-requires t c κs = search needs
-
 lower-halves-some-go-on-requires : (t : ℕ) → lower-halves-lts.Need-some-go-on-requires (
-  row-buffer-reads.Asked,
-  row-buffer-reads.Learnt,
   some-go-on-reads.Asked,
   some-go-on-reads.Learnt,
   lower-halves-below t,
@@ -80,8 +51,6 @@ lower-halves-some-go-on-requires : (t : ℕ) → lower-halves-lts.Need-some-go-o
 lower-halves-some-go-on-requires t c κs = search needs
 
 lower-halves-sub-lower-halves : (t : ℕ) → lower-halves-lts.Need-sub-lower-halves (
-  row-buffer-reads.Asked,
-  row-buffer-reads.Learnt,
   some-go-on-reads.Asked,
   some-go-on-reads.Learnt,
   lower-halves-below t,
@@ -92,8 +61,6 @@ lower-halves-sub-lower-halves : (t : ℕ) → lower-halves-lts.Need-sub-lower-ha
 lower-halves-sub-lower-halves t c = search needs
 
 lower-halves-lower-halves-requires : (t : ℕ) → lower-halves-lts.Need-lower-halves-requires (
-  row-buffer-reads.Asked,
-  row-buffer-reads.Learnt,
   some-go-on-reads.Asked,
   some-go-on-reads.Learnt,
   lower-halves-below t,
@@ -101,11 +68,9 @@ lower-halves-lower-halves-requires : (t : ℕ) → lower-halves-lts.Need-lower-h
   next-lowers-reads.Asked,
   next-lowers-reads.Learnt,
 ) (lower-halves-at t) lower-halves.Post
-lower-halves-lower-halves-requires t c κs = (omega arith, (search needs, c .before .before .row-buffer .ensures))
+lower-halves-lower-halves-requires t c κs = (omega arith, search needs)
 
 lower-halves-next-lowers-requires : (t : ℕ) → lower-halves-lts.Need-next-lowers-requires (
-  row-buffer-reads.Asked,
-  row-buffer-reads.Learnt,
   some-go-on-reads.Asked,
   some-go-on-reads.Learnt,
   lower-halves-below t,
@@ -116,8 +81,6 @@ lower-halves-next-lowers-requires : (t : ℕ) → lower-halves-lts.Need-next-low
 lower-halves-next-lowers-requires t c κs = search needs
 
 lower-halves-returns-2 : (t : ℕ) → lower-halves-lts.Need-returns-2 (
-  row-buffer-reads.Asked,
-  row-buffer-reads.Learnt,
   some-go-on-reads.Asked,
   some-go-on-reads.Learnt,
   lower-halves-below t,
@@ -126,13 +89,11 @@ lower-halves-returns-2 : (t : ℕ) → lower-halves-lts.Need-returns-2 (
   next-lowers-reads.Learnt,
 ) (lower-halves-at t) lower-halves.Post
 lower-halves-returns-2 t c =
-    let b = c .before .before .before .before in
-    let s = b .before .before .before in
-    c .next-lowers .ensures ∙ lower-next (s .args .shown) _ _ (b .before .if1 .left) _ _ (s .pre .1 .1) (b .row-buffer .ensures) _ (c .before .lower-halves .ensures)
+    let g = c .before .before .before .before in
+    let s = g .before .before in
+    c .next-lowers .ensures ∙ lower-next (s .args .shown) _ _ (omega (arith, g .if1 .left)) _ (c .before .lower-halves .ensures)
 
 lower-halves-returns-3 : (t : ℕ) → lower-halves-lts.Need-returns-3 (
-  row-buffer-reads.Asked,
-  row-buffer-reads.Learnt,
   some-go-on-reads.Asked,
   some-go-on-reads.Learnt,
   lower-halves-below t,
@@ -142,14 +103,12 @@ lower-halves-returns-3 : (t : ℕ) → lower-halves-lts.Need-returns-3 (
 ) (lower-halves-at t) lower-halves.Post
 unfolding joined
 lower-halves-returns-3 t c =
-    let b = c .before .before in
-    let s = b .before .before .before in
-    lower-none (s .args .shown) _ _ (b .before .if1 .left) _ _ (s .pre .1 .1) (b .row-buffer .ensures) (sym (c .before .some-go-on .ensures) ∙ c .if2 .left)
+    let g = c .before .before in
+    let s = g .before .before in
+    lower-none (s .args .shown) _ _ (omega (arith, g .if1 .left)) (sym (c .before .some-go-on .ensures) ∙ c .if2 .left)
 
 pub +lower-halves-spec : {M : Type 1} → statement M
 +lower-halves-spec = close μ-lower-halves λ t. lower-halves-lts.spec (
-  row-buffer-reads.Asked,
-  row-buffer-reads.Learnt,
   some-go-on-reads.Asked,
   some-go-on-reads.Learnt,
   lower-halves-below t,
@@ -160,8 +119,6 @@ pub +lower-halves-spec : {M : Type 1} → statement M
     (lower-halves-at t)
     lower-halves.Post
     (lower-halves-returns t)
-    (lower-halves-sub-row-buffer t)
-    (lower-halves-row-buffer-requires t)
     (lower-halves-some-go-on-requires t)
     (lower-halves-sub-lower-halves t)
     (lower-halves-lower-halves-requires t)

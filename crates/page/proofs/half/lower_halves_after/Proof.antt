@@ -1,18 +1,17 @@
 use Rattle.page.proofs.Halves.{lower-next}
-use native.Mathlib.Omega.{arith}
 use mathlib.Core.Path.{_∙_}
 use borrow.Author.Needs.{needs}
 use Rattle.page.proofs.half.lower_halves_after.Statement.{statement}
 use Rattle.page.proofs.half.lower_halves_after.Tie as tie
 
 next-lowers-requires : tie.Need-next-lowers-requires
-next-lowers-requires c κs = search needs
+next-lowers-requires c κs = (search needs, c .before .before .pre .1 (c .if1 .taken) .0)
 
 returns : tie.Need-returns
 returns c = let i = c .before in
     let s = i .before .before in
-    let k = s .pre .2 (i .if1 .taken) in
-    c .next-lowers .ensures ∙ lower-next (s .args .shown) _ _ (λ e. omega (arith, k .0)) _ _ (s .pre .1) (k .1) _ (k .2)
+    let k = s .pre .1 (i .if1 .taken) in
+    c .next-lowers .ensures ∙ lower-next (s .args .shown) _ _ (k .0) _ (k .1)
 
 lower-halves-requires : tie.Need-lower-halves-requires
 lower-halves-requires c κs = search needs

@@ -12,13 +12,13 @@ use Rattle.picture.proofs.redraw.redraw_rows.Statement.{statement}
 use Rattle.picture.proofs.redraw.redraw_rows.Tie as tie
 
 abbrev Inv-loop : tie.InvT-loop
-Inv-loop picture₀ memory rom shown marks rows₀ known₀ above₀ halves₀ r₀ picture rows known above halves r = DrawnTo columnBytes marks picture₀ (rowOf memory rom shown) picture rows r × KnownAbove shown memory r known above halves
+Inv-loop picture₀ memory rom shown marks rows₀ known₀ halves₀ r₀ picture rows known halves r = DrawnTo columnBytes marks picture₀ (rowOf memory rom shown) picture rows r × KnownAbove shown memory r known halves
 
 abbrev μ-loop : tie.MeasureT-loop
-μ-loop picture₀ memory rom shown marks rows₀ known₀ above₀ halves₀ r₀ picture rows known above halves r = 25 - r
+μ-loop picture₀ memory rom shown marks rows₀ known₀ halves₀ r₀ picture rows known halves r = 25 - r
 
 loop-holds : tie.Need-loop-holds Inv-loop μ-loop
-loop-holds c = let a = c .before .before .before in (start _ _ _ _ (a .pre .0), not-known (a .args .memory .now) (a .args .shown) _ _ _)
+loop-holds c = let a = c .before .before .before in (start _ _ _ _ (a .pre .0), not-known (a .args .memory .now) (a .args .shown) _ _)
 
 array-read-if1 : tie.Need-array-read-if1 Inv-loop μ-loop
 array-read-if1 c = search needs
@@ -34,7 +34,7 @@ loop-again c = let t = c .before in
     let l = t .before .loop in
     let a = t .before .before .before .before .before .args in (
       keep columnBytes _ _ (rowOf (a .memory .now) (a .rom .now) (a .shown)) _ _ _ (l .inv .0) (t .loop-test .taken) (not-true (isMarked (a .t5) (l .r)) (c .if1 .taken)),
-      not-known (a .memory .now) (a .shown) (l .r + 1) (l .above) (l .halves),
+      not-known (a .memory .now) (a .shown) (l .r + 1) (l .halves),
     )
 
 cast-row-buffer : tie.Need-cast-row-buffer Inv-loop μ-loop
@@ -48,6 +48,12 @@ cast-lower-halves-after c = search needs
 
 lower-halves-after-requires : tie.Need-lower-halves-after-requires Inv-loop μ-loop
 lower-halves-after-requires c κs = search needs
+
+cast-right-halves-of : tie.Need-cast-right-halves-of Inv-loop μ-loop
+cast-right-halves-of c = search needs
+
+right-halves-of-requires : tie.Need-right-halves-of-requires Inv-loop μ-loop
+right-halves-of-requires c κs = search needs
 
 mul-draw-row : tie.Need-mul-draw-row Inv-loop μ-loop
 mul-draw-row c = search needs
@@ -68,7 +74,7 @@ part-draw-row-end : tie.Need-part-draw-row-end Inv-loop μ-loop
 part-draw-row-end c = search needs
 
 draw-row-requires : tie.Need-draw-row-requires Inv-loop μ-loop
-draw-row-requires c κs = search needs
+draw-row-requires c κs = (search needs, search needs, search needs, c .before .right-halves-of .ensures)
 
 add-rows : tie.Need-add-rows Inv-loop μ-loop
 add-rows c = search needs
@@ -81,14 +87,14 @@ loop-less-2 c = omega arith
 
 loop-again-2 : tie.Need-loop-again-2 Inv-loop μ-loop
 loop-again-2 c = let d = c .before .before in
-    let h = d .before .before in
+    let h = d .before .before .before in
     let b = h .before in
     let t = b .before .before in
     let l = t .before .loop in
     let a = t .before .before .before .before .before .args in (
       drew-row _ _ (a .memory .now) (a .rom .now) (a .shown) _ _ _ (l .inv .0) (t .loop-test .taken) (not-false (isMarked (a .t5) (l .r)) (b .before .if1 .left)) _ _ (d .draw-row .last .0)
           (b .row-buffer .ensures) (h .lower-halves-after .ensures) (d .draw-row .ensures) (search needs),
-      known-next (a .memory .now) (a .shown) (l .r) _ _ (b .row-buffer .ensures) (h .lower-halves-after .ensures),
+      known-next (a .memory .now) (a .shown) (l .r) _ (h .lower-halves-after .ensures),
     )
 
 same-length : tie.Need-same-length Inv-loop μ-loop
@@ -114,6 +120,8 @@ redraw-rows-spec =
     row-buffer-requires
     cast-lower-halves-after
     lower-halves-after-requires
+    cast-right-halves-of
+    right-halves-of-requires
     mul-draw-row
     mul-draw-row-2
     add-draw-row

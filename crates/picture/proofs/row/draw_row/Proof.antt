@@ -4,9 +4,6 @@ use borrow.Author.Needs.{needs}
 use Rattle.picture.proofs.row.draw_row.Statement.{statement}
 use Rattle.picture.proofs.row.draw_row.Tie as tie
 
-right-halves-requires : tie.Need-right-halves-requires
-right-halves-requires c κs = search needs
-
 tens-of-requires : tie.Need-tens-of-requires
 tens-of-requires c κs = search needs
 
@@ -23,19 +20,12 @@ returns : tie.Need-returns
 returns c = let d = c .before .before in
     let p = d .before .before .before .before in
     let t = p .before in
-    let h = t .before in
-    let k = h .before in
-    let a = k .before .before .before .args in
+    let k = t .before in
+    let s = k .before .before .before in
+    let a = s .args in
     drawn-row (a .memory .now) (a .rom .now) (λ i. omega (arith, k .before .shared-slice-known .given i)) (λ i. omega (arith, k .shared-slice-known2 .given i))
-    (a .shown) (a .cells) (a .lowers) _ (h .right-halves .ensures) _ _ _ (t .tens-of .ensures) (p .pairs-of .ensures) (d .draw-lines .ensures)
+    (a .shown) (a .cells) (a .lowers) _ (s .pre .3) _ _ _ (t .tens-of .ensures) (p .pairs-of .ensures) (d .draw-lines .ensures)
 
 pub draw-row-spec : {M : Type 1} → statement M
 draw-row-spec =
-    tie.close
-    (tie.spec
-    right-halves-requires
-    tens-of-requires
-    pairs-of-requires
-    draw-lines-requires
-    same-length
-    returns)
+    tie.close (tie.spec tens-of-requires pairs-of-requires draw-lines-requires same-length returns)

@@ -1,0 +1,143 @@
+-- Laws of a stretch of cells: its bytes stand side by side, the tests of its bytes are those of its cells, and a row is two stretches.
+-- Assumes nothing.
+use Prim.Native.Nat.{ℕ, zero, suc, _+_, _/_, _%_, _≤_, _<_}
+use mathlib.Core.Path.{_≡_, refl, sym, ap, ap₂, _∙_}
+use mathlib.Core.Bool.{Bool, not, _&&_, _||_, or-false, or-assoc}
+use mathlib.Core.List.{List, [], _∷_}
+use mathlib.Core.Logic.{⊎-elim}
+use native.Mathlib.Omega.{arith}
+use lib.Dec.{ltb, eqb}
+use lib.ListN.{getD}
+use Rattle.basics.specs.Below.{anyBelow}
+use Rattle.basics.proofs.Below.{any-same}
+use Rattle.basics.proofs.Choice.{lt-or-le, eq-or-ne}
+use Rattle.basics.proofs.Computed.{agree-test}
+use Rattle.address.specs.Boards.{boardBlocks, bytesOf}
+use Rattle.address.specs.Places.{placeOf, blockOf}
+use Rattle.address.proofs.Laws.{place-left, place-service, place-right}
+use Rattle.cell.specs.Cells.{isQuadrichrome}
+use Rattle.page.specs.Codes.{codeOf}
+use Rattle.page.specs.Halves.{isTall, isWide, sameCode, goesOn}
+use Rattle.page.specs.HowHalves.{Within, codeFrom, goesOnIn}
+use Rattle.page.specs.declared.stretch.Starts.{Starts}
+
+-- a stretch that crosses from column 31 to column 32 has two starts; another has one
+module _ (first i : ℕ) (column : first + i < 40) (side : first % 32 + i < 32) where
+  pub stretch-place : (y z : ℕ) → placeOf first y z + i ≡ placeOf (first + i) y z
+  stretch-place y z =
+      ⊎-elim
+      (λ l. omega (arith, place-left first y z l, place-left (first + i) y z (omega arith)))
+      (λ l.
+      ⊎-elim
+      (λ e. omega (arith, place-service first y z l e, place-service (first + i) y z (omega arith) e))
+      (λ n. omega (arith, place-right first y z l n, place-right (first + i) y z (omega arith) n))
+      (eq-or-ne y 0))
+      (lt-or-le first 32)
+
+  module _ (m : List ℕ) (y z start : ℕ) where
+    byte : (k : ℕ) → start ≡ placeOf first y (blockOf z k) → getD m (start + i) 0 ≡ getD m (placeOf (first + i) y (blockOf z k)) 0
+    byte k e = ap (λ (p : ℕ). getD m p 0) (ap (λ (s : ℕ). s + i) e ∙ stretch-place y (blockOf z k))
+
+    pub stretch-c : start ≡ placeOf first y (blockOf z 0) → getD m (start + i) 0 ≡ getD (codeOf m z y (first + i)) 0 0
+    unfolding codeOf
+    stretch-c e = byte 0 e
+
+    pub stretch-b : start ≡ placeOf first y (blockOf z 1) → getD m (start + i) 0 ≡ getD (codeOf m z y (first + i)) 1 0
+    unfolding codeOf
+    stretch-b e = byte 1 e
+
+    pub stretch-a : start ≡ placeOf first y (blockOf z 2) → getD m (start + i) 0 ≡ getD (codeOf m z y (first + i)) 2 0
+    unfolding codeOf
+    stretch-a e = byte 2 e
+
+  -- the code of cell i, from where its three bytes start
+  pub code-from :
+      (m : List ℕ) (y z : ℕ) (s : Starts)
+      → s .c ≡ placeOf first y (blockOf z 0) → s .b ≡ placeOf first y (blockOf z 1) → s .a ≡ placeOf first y (blockOf z 2)
+      → codeFrom m s i ≡ codeOf m z y (first + i)
+  unfolding codeOf
+  code-from m y z s ec eb ea = rw (byte m y z (s .c) 0 ec, byte m y z (s .b) 1 eb, byte m y z (s .a) 2 ea)
+
+-- a stretch is in the memory of a board of so many blocks
+pub stretch-fits :
+    (blocks first n y z k start : ℕ) → start ≡ placeOf first y (blockOf z k) → blockOf z k < blocks → y < 32 → first + n ≤ 40 → first % 32 + n ≤ 32
+    → start + n ≤ bytesOf blocks
+stretch-fits blocks first n y z k start e hz hy column side =
+    ⊎-elim
+    (λ l. omega (arith, place-left first y (blockOf z k) l))
+    (λ l.
+    ⊎-elim
+    (λ q. omega (arith, place-service first y (blockOf z k) l q))
+    (λ q. omega (arith, place-right first y (blockOf z k) l q))
+    (eq-or-ne y 0))
+    (lt-or-le first 32)
+
+-- and so are all three of its bytes
+pub starts-fit :
+    (first n y z : ℕ) (s : Starts)
+    → (s .c ≡ placeOf first y (blockOf z 0)) × (s .b ≡ placeOf first y (blockOf z 1)) × (s .a ≡ placeOf first y (blockOf z 2))
+    → z < boardBlocks → y < 32 → first + n ≤ 40 → first % 32 + n ≤ 32 → Within s n
+starts-fit first n y z s e hz hy column side = (
+  stretch-fits boardBlocks first n y z 0 (s .c) (e .0) (omega arith) hy column side,
+  stretch-fits boardBlocks first n y z 1 (s .b) (e .1) (omega arith) hy column side,
+  stretch-fits boardBlocks first n y z 2 (s .a) (e .2) (omega arith) hy column side,
+)
+
+-- fewer cells of it
+pub within-less : (s : Starts) (n i : ℕ) → Within s n → i < n → Within s (i + 1)
+within-less s n i w l = (omega (arith, w .0), omega (arith, w .1), omega (arith, w .2))
+
+-- a bichrome cell's B
+bichrome : (b : ℕ) → b < 256 → ltb b 192 ≡ not (isQuadrichrome b)
+bichrome = agree-test (λ b. ltb b 192) (λ b. not (isQuadrichrome b)) 256 tt
+
+-- the tests of a cell, by the bytes that the code reads
+module _ (code : List ℕ) where
+  pub tall-test : (b : ℕ) → b < 256 → b ≡ getD code 1 0 → (ltb b 192 && eqb (b / 2 % 2) 1) ≡ isTall code
+  unfolding isTall
+  tall-test b h e = ap (λ (t : Bool). t && eqb (b / 2 % 2) 1) (bichrome b h) ∙ rw e
+
+  pub wide-test : (b : ℕ) → b < 256 → b ≡ getD code 1 0 → (ltb b 192 && eqb (b / 8 % 2) 1) ≡ isWide code
+  unfolding isWide
+  wide-test b h e = ap (λ (t : Bool). t && eqb (b / 8 % 2) 1) (bichrome b h) ∙ rw e
+
+-- cell i of a stretch goes on from the one above it, by the six bytes that the code reads
+pub goes-on-test :
+    (m : List ℕ) (here above : Starts) (i : ℕ) → getD m (here .b + i) 0 < 256
+    → ((ltb (getD m (here .b + i) 0) 192 && eqb (getD m (here .b + i) 0 / 2 % 2) 1)
+    && (eqb (getD m (here .c + i) 0) (getD m (above .c + i) 0)
+    && (eqb (getD m (here .b + i) 0) (getD m (above .b + i) 0) && eqb (getD m (here .a + i) 0) (getD m (above .a + i) 0))))
+    ≡ goesOn (isTall (codeFrom m here i)) (codeFrom m here i) (codeFrom m above i)
+unfolding sameCode
+goes-on-test m here above i h =
+    ap
+    (λ (t : Bool).
+    t
+    && (eqb (getD m (here .c + i) 0) (getD m (above .c + i) 0)
+    && (eqb (getD m (here .b + i) 0) (getD m (above .b + i) 0) && eqb (getD m (here .a + i) 0) (getD m (above .a + i) 0))))
+    (tall-test (codeFrom m here i) _ h refl)
+
+-- and so does the cell in its column
+pub goes-on-from :
+    (first i : ℕ) → first + i < 40 → first % 32 + i < 32 → (m : List ℕ) (y u z : ℕ) (here above : Starts)
+    → (here .c ≡ placeOf first y (blockOf z 0)) × (here .b ≡ placeOf first y (blockOf z 1)) × (here .a ≡ placeOf first y (blockOf z 2))
+    → (above .c ≡ placeOf first u (blockOf z 0)) × (above .b ≡ placeOf first u (blockOf z 1)) × (above .a ≡ placeOf first u (blockOf z 2))
+    → goesOn (isTall (codeFrom m here i)) (codeFrom m here i) (codeFrom m above i) ≡ goesOnIn m z y u (first + i)
+goes-on-from first i column side m y u z here above h a =
+    rw (code-from first i column side m y z here (h .0) (h .1) (h .2), code-from first i column side m u z above (a .0) (a .1) (a .2))
+
+module _ (f : ℕ → Bool) where
+  -- the numbers below a + b are those below a, and the b from a on
+  pub any-split : (a b : ℕ) → anyBelow f (a + b) ≡ (anyBelow f a || anyBelow (λ i. f (a + i)) b)
+  unfolding anyBelow
+  any-split a zero = let e : a + 0 ≡ a = omega arith in rw e (sym (or-false (anyBelow f a)))
+  any-split a (suc b) =
+      let e : a + suc b ≡ suc (a + b) = omega arith in
+      ap (anyBelow f) e
+      ∙ ap (λ (t : Bool). t || f (a + b)) (any-split a b)
+      ∙ or-assoc (anyBelow f a) (anyBelow (λ i. f (a + i)) b) (f (a + b))
+
+  -- the two stretches of a row
+  pub row-stretches : (left right : Bool) → left ≡ anyBelow (λ i. f (0 + i)) 32 → right ≡ anyBelow (λ i. f (32 + i)) 8 → (left || right) ≡ anyBelow f 40
+  row-stretches left right p q =
+      ap₂ _||_ (p ∙ any-same (λ i. f (0 + i)) f 32 (λ i l. ap f (omega arith))) q ∙ sym (any-split 32 8)
