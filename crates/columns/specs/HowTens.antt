@@ -1,9 +1,9 @@
 -- How the code works out the ten bytes and the four pairs of each cell of a row. Nothing here has to be believed: `drawn-line` of crate
 -- lines shows that the lines made of them have the pixels of the cells.
 -- Assumes nothing.
-use Prim.Native.Nat.{ℕ, _+_}
+use Prim.Native.Nat.{ℕ, _+_, _-_, _%_}
 use mathlib.Core.Bool.{Bool, true, false}
-use mathlib.Core.List.{List, []}
+use mathlib.Core.List.{List, [], _∷_}
 use lib.ListN.{getD}
 use Rattle.basics.specs.Choice.{pick}
 use Rattle.basics.specs.Bits.{fromBits}
@@ -44,9 +44,23 @@ tenAt m rom shown cells lowers rights x = tenOf m rom shown (decoded (getD cells
 abbrev pub tensOf : List ℕ → List ℕ → Shown → List (List ℕ) → List Bool → List Bool → List ℕ
 tensOf m rom shown cells lowers rights = sideBySide (tenAt m rom shown cells lowers rights) 10
 
+-- the step from one byte to another, modulo 256
+abbrev pub stepTo : ℕ → ℕ → ℕ
+stepTo a b = (256 + b - a) % 256
+
+-- four pairs as the code keeps them: that of no bit with the step to that of the left pixel's bit, and that of the right pixel's bit with
+-- the step to that of both
+unfoldable pub stepsOf : List ℕ → List ℕ
+stepsOf pairs =
+    getD pairs 0 0 ∷ stepTo (getD pairs 0 0) (getD pairs 1 0) ∷ getD pairs 2 0 ∷ stepTo (getD pairs 2 0) (getD pairs 3 0) ∷ []
+
+-- and the way back
+unfoldable pub fromSteps : List ℕ → List ℕ
+fromSteps steps = getD steps 0 0 ∷ (getD steps 0 0 + getD steps 1 0) % 256 ∷ getD steps 2 0 ∷ (getD steps 2 0 + getD steps 3 0) % 256 ∷ []
+
 -- the four pairs of cell x, and those of every cell
 abbrev pub pairsAt : List (List ℕ) → Shown → ℕ → List ℕ
-pairsAt cells shown x = cellPairs (decoded (getD cells x [])) shown
+pairsAt cells shown x = stepsOf (cellPairs (decoded (getD cells x [])) shown)
 
 abbrev pub pairsOf : List (List ℕ) → Shown → List ℕ
 pairsOf cells shown = sideBySide (pairsAt cells shown) 4

@@ -12,23 +12,23 @@ use Rattle.basics.specs.Bits.{fromBits}
 use Rattle.basics.specs.Parts.{joined}
 use Rattle.basics.proofs.Choice.{pick-known}
 use Rattle.basics.proofs.Filled.{filled, length-filled}
-use Rattle.basics.proofs.Parts.{length-table, length-joined, joined-front, table-at, joined-same}
+use Rattle.basics.proofs.Parts.{length-joined, joined-front, table-at, joined-same}
 use Rattle.shown.specs.declared.Shown.{Shown}
 use Rattle.shown.specs.Lengths.{columnBytes, lineBytes}
 use Rattle.cell.specs.declared.kind.Cell.{Cell}
-use Rattle.cell.specs.declared.kind.Cell.the-variants.{Bichrome, Quadrichrome}
 use Rattle.cell.specs.Slices.{sliceShown}
 use Rattle.cell.specs.Pixels.{takenBit, cellLine}
-use Rattle.cell.specs.HowPairs.{bichromePairs, quadrichromePairs, cellPairs, wideOf, underlineOf, underlinedOn, effectiveOf, fourBy}
+use Rattle.cell.specs.HowPairs.{cellPairs, wideOf, underlineOf, underlinedOn, effectiveOf, fourBy}
 use Rattle.cell.proofs.Bytes.{effective-lined, effective-taken}
 use Rattle.cell.proofs.Drawn.{pairs-line, four-long}
 use Rattle.page.specs.Sources.{slicesOf}
 use Rattle.page.specs.Inputs.{decoded}
 use Rattle.columns.specs.HowColumns.{byteIn}
-use Rattle.columns.specs.HowTens.{takenAt, tenOf, tenAt, tensOf, pairsAt, pairsOf}
+use Rattle.columns.specs.HowTens.{takenAt, tenOf, tenAt, tensOf, fromSteps, pairsAt, pairsOf}
 use Rattle.lines.specs.HowLines.{linedByte, byteOn, bytesOn, fourOf, lineOn}
 use Rattle.lines.proofs.Lengths.{columns-long}
 use Rattle.columns.proofs.Columns.{side-at, side-column}
+use Rattle.columns.proofs.Steps.{steps-four, pairs-back}
 use Rattle.columns.proofs.Tens.{slice-small}
 
 -- a packed line of forty columns
@@ -51,12 +51,6 @@ module _ (bytes pairs line : List ℕ) (begun : line ≡ filled columnBytes (fou
       ap (take (columnBytes * i)) begun
       ∙ take-append-le (columnBytes * i) packed (drop (columnBytes * 32) (replicate (lineBytes columnBytes) 0)) (omega arith)
       ∙ joined-front columnBytes (fourOf bytes pairs) 32 (λ j l. four-long _ _) i h
-
--- a cell has four pairs
-pairs-four : (cell : Cell) (shown : Shown) → length (cellPairs cell shown) ≡ 4
-unfolding bichromePairs quadrichromePairs
-pairs-four (Bichrome cell) shown = length-table _ 4
-pairs-four (Quadrichrome cell) shown = length-table _ 4
 
 module _ (shown : Shown) (code : List ℕ) (lower right : Bool) (n s : ℕ) where
   -- the byte that the code chooses pairs by is the effective byte
@@ -109,7 +103,8 @@ module _ (m rom : List ℕ) (shown : Shown) (cells : List (List ℕ)) (lowers ri
 
       drawn-at : (x : ℕ) → x < 40 → fourOf (bytesOn cells lowers tens n) pairs x ≡ pixelsOn n x
       drawn-at x l =
-          ap₂ fourBy (byte-is x l) (side-column (pairsAt cells shown) pairs x is-pairs (pairs-four (cellAt x) shown) l)
+          ap₂ fourBy (byte-is x l)
+          (ap fromSteps (side-column (pairsAt cells shown) pairs x is-pairs (steps-four (cellPairs (cellAt x) shown)) l) ∙ pairs-back (cellAt x) shown)
           ∙ drawn-cell shown (getD cells x []) (getD lowers x false) (getD rights x false) n _
           (slice-small m rom m-small rom-small shown (cellAt x) (numberAt n x))
 

@@ -10,6 +10,7 @@ use Rattle.basics.specs.Parts.{table, joined}
 use Rattle.cell.specs.HowPairs.{underlinedOn, fourBy}
 use Rattle.page.specs.Inputs.{decoded}
 use Rattle.columns.specs.HowColumns.{byteIn}
+use Rattle.columns.specs.HowTens.{fromSteps}
 
 -- a byte of line n underlined where the cell is
 unfoldable pub linedByte : List ℕ → Bool → ℕ → ℕ → ℕ
@@ -28,7 +29,8 @@ bytesOn cells lowers tens n = table (byteOn cells lowers tens n) 40
 
 -- the four packed bytes of cell x
 abbrev pub fourOf : List ℕ → List ℕ → ℕ → List ℕ
-fourOf bytes pairs x = fourBy (getD bytes x 0) (getD pairs x 0 ∷ getD pairs (40 + x) 0 ∷ getD pairs (80 + x) 0 ∷ getD pairs (120 + x) 0 ∷ [])
+fourOf bytes pairs x =
+    fourBy (getD bytes x 0) (fromSteps (getD pairs x 0 ∷ getD pairs (40 + x) 0 ∷ getD pairs (80 + x) 0 ∷ getD pairs (120 + x) 0 ∷ []))
 
 -- line n of a row
 unfoldable pub lineOn : List (List ℕ) → List Bool → List ℕ → List ℕ → ℕ → List ℕ

@@ -1,26 +1,35 @@
 // A line packed from the byte and the pairs of each of its forty cells.
 ghost use mathlib.Core.Path.{_≡_};
 ghost use mathlib.Core.List.{[], _∷_, _++_};
-ghost use Prim.Native.Nat.{_*_, _%_, _≤_};
+ghost use Prim.Native.Nat.{_+_, _*_, _%_, _≤_};
 ghost use lib.ListN.{length, getD, take, drop};
+ghost use Rattle.basics.specs.Choice.{pick};
 ghost use Rattle.basics.specs.Parts.{joined};
 ghost use Rattle.shown.specs.Lengths.{columnBytes, lineBytes};
 ghost use Rattle.cell.specs.HowPairs.{fourBy};
+ghost use Rattle.columns.specs.HowTens.{fromSteps};
 ghost use Rattle.lines.specs.HowLines.{fourOf};
 
-// One of the four pairs, by the two lowest bits of a number. Choices without a jump, so that the loop over the cells becomes vector
-// instructions.
-fn chosen(by: u8, none: u8, left: u8, right: u8, both: u8) -> u8
-    ensures { λ r. ⌜ r ≡ getD (none ∷ left ∷ right ∷ both ∷ []) (by % 4) 0 ⌝ }
+// A byte, or what a step leads to from it. Without a jump, so that the loop over the cells becomes vector instructions.
+fn stepped(set: bool, byte: u8, step: u8) -> u8
+    ensures { λ r. ⌜ r ≡ pick set ((byte + step) % 256) byte ⌝ }
 {
-    let low = if by % 2 == 1 { left } else { none };
-    let high = if by % 2 == 1 { both } else { right };
+    let more = if set { step } else { 0 };
+    ((byte as u16 + more as u16) % 256) as u8
+}
+
+// One of the four pairs, by the two lowest bits of a number: that of no bit, or of the right pixel's, with the step for the left pixel's.
+fn chosen(by: u8, none: u8, left: u8, right: u8, both: u8) -> u8
+    ensures { λ r. ⌜ r ≡ getD (fromSteps (none ∷ left ∷ right ∷ both ∷ [])) (by % 4) 0 ⌝ }
+{
+    let low = stepped(by % 2 == 1, none, left);
+    let high = stepped(by % 2 == 1, right, both);
     if by / 2 % 2 == 1 { high } else { low }
 }
 
 // The four packed bytes of a cell.
 fn four(by: u8, none: u8, left: u8, right: u8, both: u8) -> [u8; 4]
-    ensures { λ r. ⌜ r ≡ fourBy by (none ∷ left ∷ right ∷ both ∷ []) ⌝ }
+    ensures { λ r. ⌜ r ≡ fourBy by (fromSteps (none ∷ left ∷ right ∷ both ∷ [])) ⌝ }
 {
     [
         chosen(by, none, left, right, both),

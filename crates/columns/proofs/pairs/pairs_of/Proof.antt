@@ -28,6 +28,9 @@ decode-requires c κs = search needs
 cell-pairs-requires : tie.Need-cell-pairs-requires Inv-loop μ-loop
 cell-pairs-requires c κs = search needs
 
+steps-requires : tie.Need-steps-requires Inv-loop μ-loop
+steps-requires c κs = search needs
+
 slice-aggregate-put-column : tie.Need-slice-aggregate-put-column Inv-loop μ-loop
 slice-aggregate-put-column c = search needs
 
@@ -46,11 +49,12 @@ loop-less c = omega arith
 loop-again : tie.Need-loop-again Inv-loop μ-loop
 loop-again c = let p = c .before in
     let t = p .before .before .before in
-    let l = t .before .before .before .before .loop in
-    let a = t .before .before .before .before .before .args in (
+    let k = t .before in
+    let l = k .before .before .before .before .loop in
+    let a = k .before .before .before .before .before .args in (
       omega arith,
-      cells-one 4 (pairsAt (a .t1) (a .shown)) (l .pairs) (p .put-column .last .0) (l .x) (t .cell-pairs .result) (l .inv .1)
-          (rw (t .cell-pairs .ensures, t .before .decode .ensures)) (search needs) (p .put-column .ensures),
+      cells-one 4 (pairsAt (a .t1) (a .shown)) (l .pairs) (p .put-column .last .0) (l .x) (t .steps .result) (l .inv .1)
+          (rw (t .steps .ensures, k .cell-pairs .ensures, k .before .decode .ensures)) (search needs) (p .put-column .ensures),
     )
 
 returns : tie.Need-returns Inv-loop μ-loop
@@ -68,6 +72,7 @@ pairs-of-spec =
     array-copy-out-decode
     decode-requires
     cell-pairs-requires
+    steps-requires
     slice-aggregate-put-column
     slice-aggregate-put-column-2
     put-column-requires

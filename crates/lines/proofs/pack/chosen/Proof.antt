@@ -1,15 +1,19 @@
-use mathlib.Core.Logic.{⊎-elim}
-use native.Mathlib.Omega.{arith}
-use Prim.Native.Nat.{_%_}
-use mathlib.Core.Path.{_≡_, refl, _∙_}
+use Rattle.columns.proofs.Steps.{chosen-low, chosen-high}
+use borrow.Author.Needs.{needs}
 use Rattle.lines.proofs.pack.chosen.Statement.{statement}
 use Rattle.lines.proofs.pack.chosen.Tie as tie
 
+stepped-requires : tie.Need-stepped-requires
+stepped-requires c κs = search needs
+
+stepped-requires-2 : tie.Need-stepped-requires-2
+stepped-requires-2 c κs = search needs
+
 returns : tie.Need-returns
-returns c = ⊎-elim (λ w. let e : c .before .before .before .args .by % 4 ≡ 3 = omega arith in w .1 ∙ rw e refl) (λ w. let e : c .before .before .before .args .by % 4 ≡ 2 = omega arith in w .1 ∙ rw e refl) (c .before .if2 .came)
+returns c = chosen-high _ _ _ _ _ _ (c .before .stepped2 .ensures) (c .if1 .taken)
 
 returns-2 : tie.Need-returns-2
-returns-2 c = ⊎-elim (λ w. let e : c .before .before .before .args .by % 4 ≡ 1 = omega arith in w .1 ∙ rw e refl) (λ w. let e : c .before .before .before .args .by % 4 ≡ 0 = omega arith in w .1 ∙ rw e refl) (c .before .before .if1 .came)
+returns-2 c = chosen-low _ _ _ _ _ _ (c .before .before .stepped .ensures) (c .if1 .left)
 
 pub chosen-spec : {M : Type 1} → statement M
-chosen-spec = tie.close (tie.spec returns returns-2)
+chosen-spec = tie.close (tie.spec stepped-requires stepped-requires-2 returns returns-2)

@@ -1,3 +1,4 @@
+use Rattle.columns.specs.HowTens.{fromSteps}
 use mathlib.Core.List.{[], _∷_}
 use Rattle.cell.proofs.Drawn.{four-made}
 use borrow.Author.Needs.{needs}
@@ -18,7 +19,7 @@ chosen-requires-4 c κs = search needs
 
 returns : tie.Need-returns
 returns c = let a = c .before .before .before .before .args in
-    four-made (a .by) (a .none ∷ a .left ∷ a .right ∷ a .both ∷ []) _ _ _ _ (c .before .before .before .chosen .ensures) (c .before .before .chosen2 .ensures) (c .before .chosen3 .ensures) (c .chosen4 .ensures)
+    four-made (a .by) (fromSteps (a .none ∷ a .left ∷ a .right ∷ a .both ∷ [])) _ _ _ _ (c .before .before .before .chosen .ensures) (c .before .before .chosen2 .ensures) (c .before .chosen3 .ensures) (c .chosen4 .ensures)
 
 pub four-spec : {M : Type 1} → statement M
 four-spec =
