@@ -1,3 +1,4 @@
 pub mod Columns
 pub mod Tens
 pub mod Steps
+pub mod PlainCells

@@ -1,9 +1,10 @@
 -- How the code works out the ten bytes and the four pairs of each cell of a row. Nothing here has to be believed: `drawn-line` of crate
 -- lines shows that the lines made of them have the pixels of the cells.
 -- Assumes nothing.
-use Prim.Native.Nat.{ℕ, _+_, _-_, _%_}
-use mathlib.Core.Bool.{Bool, true, false}
+use Prim.Native.Nat.{ℕ, _+_, _-_, _/_, _%_}
+use mathlib.Core.Bool.{Bool, true, false, _&&_}
 use mathlib.Core.List.{List, [], _∷_}
+use lib.Dec.{ltb, eqb}
 use lib.ListN.{getD}
 use Rattle.basics.specs.Choice.{pick}
 use Rattle.basics.specs.Bits.{fromBits}
@@ -36,6 +37,14 @@ takenAt m rom shown cell lower right n =
 
 unfoldable pub tenOf : List ℕ → List ℕ → Shown → Cell → Bool → Bool → List ℕ
 tenOf m rom shown cell lower right = table (takenAt m rom shown cell lower right) 10
+
+-- a cell of a ROM set, of single height and width
+unfoldable pub isPlain : ℕ → Bool
+isPlain b = ltb b 128 && (eqb (b / 2 % 2) 0 && eqb (b / 8 % 2) 0)
+
+-- the ROM sets by B6..B4
+abbrev pub setNumber : ℕ → ℕ
+setNumber high = getD (0 ∷ 0 ∷ 1 ∷ 2 ∷ 3 ∷ 3 ∷ 4 ∷ 4 ∷ []) high 0
 
 -- the ten bytes of cell x, and those of every cell
 abbrev pub tenAt : List ℕ → List ℕ → Shown → List (List ℕ) → List Bool → List Bool → ℕ → List ℕ

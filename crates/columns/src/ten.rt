@@ -1,12 +1,17 @@
 // The ten bytes of a cell, one for each of its lines: the slice that the line shows, and of it the half that is shown.
 ghost use mathlib.Core.Path.{_≡_};
+ghost use Prim.Native.Nat.{_<_};
 ghost use lib.ListN.{length};
 ghost use Rattle.basics.specs.Parts.{table};
 ghost use Rattle.address.specs.Boards.{memoryBytes};
 ghost use Rattle.shown.specs.Lengths.{romBytes};
 ghost use Rattle.cell.specs.HowPairs.{wideOf};
+ghost use Rattle.page.specs.Inputs.{decoded};
+ghost use Rattle.columns.specs.HowColumns.{putAt};
 ghost use Rattle.columns.specs.HowTens.{doubledOf, tenOf, tensOf};
 use crate::column::put_column;
+use crate::plain::is_plain;
+use crate::plain::rom_start;
 use crate::slice::shown_slices;
 use cell::decode::decode;
 use cell::kind::Cell;
@@ -52,6 +57,29 @@ pub fn ten_of(
     slices
 }
 
+// The ten bytes of cell x put among those of the others.
+fn put_ten(
+    tens: &mut [u8],
+    x: usize,
+    memory: &[u8],
+    rom: &[u8],
+    shown: Shown,
+    code: [u8; 3],
+    lower: bool,
+    right: bool,
+)
+    requires { ⌜ (length (now tens) ≡ 400) × (x < 40) × (length (now memory) ≡ memoryBytes) × (length (now rom) ≡ romBytes) ⌝ }
+    ensures { λ _. ⌜ now (tens .exit) ≡ table (putAt (now (tens .entry)) x (tenOf (now (memory .entry)) (now (rom .entry)) shown (decoded code) lower right)) 400 ⌝ }
+{
+    if is_plain(code[1]) {
+        let first = rom_start(code[0], code[1]);
+        put_column(tens, x, &rom[first..first + 10]);
+        return;
+    }
+    let ten = ten_of(memory, rom, shown, decode(code), lower, right);
+    put_column(tens, x, &ten);
+}
+
 // The ten bytes of each cell of a row, line after line.
 pub fn tens_of(
     memory: &[u8],
@@ -66,8 +94,16 @@ pub fn tens_of(
 {
     let mut tens = [0u8; 400];
     for x in 0..40 {
-        let ten = ten_of(memory, rom, shown, decode(cells[x]), lowers[x], rights[x]);
-        put_column(&mut tens, x, &ten);
+        put_ten(
+            &mut tens,
+            x,
+            memory,
+            rom,
+            shown,
+            cells[x],
+            lowers[x],
+            rights[x],
+        );
     }
     tens
 }

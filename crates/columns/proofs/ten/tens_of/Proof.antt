@@ -1,8 +1,11 @@
 use Rattle.columns.proofs.Columns.{CellsTo, cells-none, cells-one, cells-end}
 use Rattle.columns.specs.HowTens.{tenAt}
 use native.Mathlib.Omega.{arith}
-use mathlib.Core.Path.{refl}
-use Prim.Native.Nat.{_≤_, _-_}
+use mathlib.Core.Path.{refl, sym, ap, _∙_}
+use Prim.Native.Nat.{ℕ, _*_, _≤_, _-_}
+use Rattle.basics.specs.Parts.{table}
+use Rattle.columns.specs.HowColumns.{putAt}
+use Rattle.columns.proofs.PlainCells.{ten-long}
 use borrow.Author.Needs.{needs}
 use Rattle.columns.proofs.ten.tens_of.Statement.{statement}
 use Rattle.columns.proofs.ten.tens_of.Tie as tie
@@ -16,32 +19,23 @@ abbrev μ-loop : tie.MeasureT-loop
 loop-holds : tie.Need-loop-holds Inv-loop μ-loop
 loop-holds c = (omega arith, cells-none 10 _ _ refl)
 
-mul-decode : tie.Need-mul-decode Inv-loop μ-loop
-mul-decode c = search needs
+slice-aggregate-put-ten : tie.Need-slice-aggregate-put-ten Inv-loop μ-loop
+slice-aggregate-put-ten c = search needs
 
-array-copy-out-decode : tie.Need-array-copy-out-decode Inv-loop μ-loop
-array-copy-out-decode c = search needs
+mul-put-ten : tie.Need-mul-put-ten Inv-loop μ-loop
+mul-put-ten c = search needs
 
-decode-requires : tie.Need-decode-requires Inv-loop μ-loop
-decode-requires c κs = search needs
+array-copy-out-put-ten : tie.Need-array-copy-out-put-ten Inv-loop μ-loop
+array-copy-out-put-ten c = search needs
 
-array-read-ten-of : tie.Need-array-read-ten-of Inv-loop μ-loop
-array-read-ten-of c = search needs
+array-read-put-ten : tie.Need-array-read-put-ten Inv-loop μ-loop
+array-read-put-ten c = search needs
 
-array-read-ten-of-2 : tie.Need-array-read-ten-of-2 Inv-loop μ-loop
-array-read-ten-of-2 c = search needs
+array-read-put-ten-2 : tie.Need-array-read-put-ten-2 Inv-loop μ-loop
+array-read-put-ten-2 c = search needs
 
-ten-of-requires : tie.Need-ten-of-requires Inv-loop μ-loop
-ten-of-requires c κs = search needs
-
-slice-aggregate-put-column : tie.Need-slice-aggregate-put-column Inv-loop μ-loop
-slice-aggregate-put-column c = search needs
-
-slice-aggregate-put-column-2 : tie.Need-slice-aggregate-put-column-2 Inv-loop μ-loop
-slice-aggregate-put-column-2 c = search needs
-
-put-column-requires : tie.Need-put-column-requires Inv-loop μ-loop
-put-column-requires c κs = search needs
+put-ten-requires : tie.Need-put-ten-requires Inv-loop μ-loop
+put-ten-requires c κs = search needs
 
 add-x : tie.Need-add-x Inv-loop μ-loop
 add-x c = search needs
@@ -51,12 +45,12 @@ loop-less c = omega arith
 
 loop-again : tie.Need-loop-again Inv-loop μ-loop
 loop-again c = let p = c .before in
-    let t = p .before .before .before in
-    let l = t .before .before .before .before .loop in
-    let a = t .before .before .before .before .before .before .before .args in (
+    let l = p .before .before .before .before .loop in
+    let a = p .before .before .before .before .before .before .before .args in
+    let ten = tenAt (a .memory .now) (a .rom .now) (a .shown) (a .t4) (a .t5) (a .t6) in (
       omega arith,
-      cells-one 10 (tenAt (a .memory .now) (a .rom .now) (a .shown) (a .t4) (a .t5) (a .t6)) (l .tens) (p .put-column .last .0) (l .x) (t .ten-of .result) (l .inv .1)
-          (rw (t .ten-of .ensures, t .before .decode .ensures)) (search needs) (p .put-column .ensures),
+      cells-one 10 ten (l .tens) (p .put-ten .last .0) (l .x) (ten (l .x)) (l .inv .1) refl (ten-long _ _ _ _ _ _)
+          (p .put-ten .ensures ∙ ap (λ (n : ℕ). table (putAt (l .tens) (l .x) (ten (l .x))) (40 * n)) (sym (ten-long _ _ _ _ _ _))),
     )
 
 returns : tie.Need-returns Inv-loop μ-loop
@@ -71,15 +65,12 @@ tens-of-spec =
     Inv-loop
     μ-loop
     loop-holds
-    mul-decode
-    array-copy-out-decode
-    decode-requires
-    array-read-ten-of
-    array-read-ten-of-2
-    ten-of-requires
-    slice-aggregate-put-column
-    slice-aggregate-put-column-2
-    put-column-requires
+    slice-aggregate-put-ten
+    mul-put-ten
+    array-copy-out-put-ten
+    array-read-put-ten
+    array-read-put-ten-2
+    put-ten-requires
     add-x
     loop-less
     loop-again
