@@ -94,6 +94,15 @@ place-fits n x y z p q r =
     ⊎-elim (λ e. omega (arith, place-service x y z l e)) (λ n. omega (arith, place-right x y z l n)) (eq-or-ne y 0))
     (lt-or-le x 32)
 
+-- a place is the start of its block and the place in block 0
+pub place-within : (x y z : ℕ) → placeOf x y z ≡ 1024 * z + placeOf x y 0
+place-within x y z =
+    ⊎-elim (λ l. omega (arith, place-left x y z l, place-left x y 0 l))
+    (λ l.
+    ⊎-elim (λ e. omega (arith, place-service x y z l e, place-service x y 0 l e)) (λ n. omega (arith, place-right x y z l n, place-right x y 0 l n))
+    (eq-or-ne y 0))
+    (lt-or-le x 32)
+
 pub place-fits-in : (n : ℕ) (t : Triple) (p : ℕ) → p ≡ placeAt t → legalIn n t ≡ true → p < bytesOf n
 place-fits-in n t p e h = rw e (legal-place n t h)
 

@@ -1,35 +1,60 @@
 // The three code bytes of each cell of a screen row.
 ghost use mathlib.Core.Path.{_≡_};
-ghost use Prim.Native.Nat.{_<_};
+ghost use mathlib.Core.List.{[], _∷_};
+ghost use Prim.Native.Nat.{_+_, _*_, _-_, _<_};
+ghost use lib.Dec.{ltb};
 ghost use lib.ListN.{length};
-ghost use Rattle.address.specs.Boards.{boardBlocks, memoryBytes};
-ghost use Rattle.page.specs.Codes.{codeOf, rowBuffer};
+ghost use Rattle.basics.specs.Choice.{pick};
+ghost use Rattle.address.specs.Boards.{memoryBytes};
+ghost use Rattle.address.specs.Places.{blockOf, byteAt};
+ghost use Rattle.page.specs.Codes.{rowBuffer};
 use address::place::block;
 use address::place::place_at;
 use address::row::row_y;
 use shown::Shown;
 
-// C, B and A of the cell at X and Y, from blocks as for KRF.
-pub fn code_at(memory: &[u8], z: u8, y: u8, x: u16) -> [u8; 3]
-    requires { ⌜ (length (now memory) ≡ memoryBytes) × (z < boardBlocks) × (y < 32) × (x < 40) ⌝ }
-    ensures { λ r. ⌜ r ≡ codeOf (now (memory .entry)) z y x ⌝ }
+// C, B and A from their places.
+fn code_at(memory: &[u8], c: usize, b: usize, a: usize) -> [u8; 3]
+    requires { ⌜ (length (now memory) ≡ memoryBytes) × (c < memoryBytes) × (b < memoryBytes) × (a < memoryBytes) ⌝ }
+    ensures { λ r. ⌜ r ≡ byteAt (now (memory .entry)) c ∷ byteAt (now (memory .entry)) b ∷ byteAt (now (memory .entry)) a ∷ [] ⌝ }
 {
-    let c = place_at(x, y as u16, block(z, 0) as u16);
-    let b = place_at(x, y as u16, block(z, 1) as u16);
-    let a = place_at(x, y as u16, block(z, 2) as u16);
     [memory[c], memory[b], memory[a]]
 }
 
-// The row buffer of a screen row.
+// Where a block starts.
+fn block_start(z: u8, k: u8) -> usize
+    ensures { λ r. ⌜ r ≡ 1024 * blockOf z k ⌝ }
+{
+    1024 * block(z, k) as usize
+}
+
+// Where column x of a row stands in its block: the left columns and the right ones each from a start of their own.
+fn column_at(left: usize, right: usize, x: usize) -> usize
+    requires { ⌜ (left < 65536) × (right < 65536) × (x < 40) ⌝ }
+    ensures { λ r. ⌜ r ≡ pick (ltb x 32) (left + x) (right + (x - 32)) ⌝ }
+{
+    if x < 32 {
+        return left + x;
+    }
+    right + (x - 32)
+}
+
+// The row buffer of a screen row, from blocks as for KRF. What is the same for all its cells is worked out once.
 pub fn row_buffer(memory: &[u8], shown: Shown, row: u8) -> [[u8; 3]; 40]
     requires { ⌜ length (now memory) ≡ memoryBytes ⌝ }
     ensures { λ r. ⌜ r ≡ rowBuffer shown (now (memory .entry)) row ⌝ }
 {
     let z = shown.first_block();
     let y = row_y(shown.yor(), row);
+    let c = block_start(z, 0);
+    let b = block_start(z, 1);
+    let a = block_start(z, 2);
+    let left = place_at(0, y as u16, 0);
+    let right = place_at(32, y as u16, 0);
     let mut cells = [[0u8; 3]; 40];
     for x in 0..40 {
-        cells[x] = code_at(memory, z, y, x as u16);
+        let at = column_at(left, right, x);
+        cells[x] = code_at(memory, c + at, b + at, a + at);
     }
     cells
 }
