@@ -22,5 +22,11 @@ pub fn row_y(yor: u8, row: u8) -> u8
         return 0;
     }
     let on = past_eight(yor) as u16 + row as u16 - 1;
+    if on < 24 {
+        return 8 + on as u8;
+    }
+    if on < 48 {
+        return on as u8 - 16;
+    }
     8 + (on % 24) as u8
 }
