@@ -6,9 +6,9 @@ use mathlib.Core.Path.{_≡_, refl, ap, ap₂, sym, _∙_}
 use mathlib.Core.Logic.{⊎-elim}
 use native.Mathlib.Numerals.{add-one}
 use native.Mathlib.Omega.{arith}
-use Rattle.basics.specs.Choice.{pick, oneIf}
-use Rattle.basics.specs.Below.{anyBelow, countBelow, lastBelow, endBelow}
-use Rattle.basics.proofs.Choice.{or-left, or-right, or-cases, eq-or-ne, lt-or-le, bool-cases, pick-either}
+use Rattle.basics.specs.Choice.{oneIf}
+use Rattle.basics.specs.Below.{anyBelow, countBelow, lastBelow}
+use Rattle.basics.proofs.Choice.{or-left, or-right, or-cases, eq-or-ne, lt-or-le, bool-cases}
 
 last-one : (i n : ℕ) → i < suc n → n ≤ i → i ≡ n
 last-one i n l h = omega arith
@@ -59,32 +59,6 @@ module _ (f : ℕ → Bool) where
   pub any-not : (n i : ℕ) → anyBelow f n ≡ false → i < n → f i ≡ false
   any-not n i e h =
       ⊎-elim (λ t. absurd (false≢true (sym e ∙ any-hit n i h t))) (λ t. t) (bool-cases (f i))
-
-  pub end-none : endBelow f 0 ≡ 0
-  unfolding endBelow
-  end-none = refl
-
-  pub end-step : (i : ℕ) → endBelow f (i + 1) ≡ pick (f i) (i + 1) (endBelow f i)
-  unfolding endBelow
-  end-step i = rw add-one
-
-  pub end-at-most : (n : ℕ) → endBelow f n ≤ n
-  unfolding endBelow
-  end-at-most zero = omega arith
-  end-at-most (suc n) = pick-either (λ e. e ≤ suc n) (f n) (suc n) (endBelow f n) (omega arith) (omega (arith, end-at-most n))
-
-  -- none passes from there on
-  pub end-past : (n i : ℕ) → endBelow f n ≤ i → i < n → f i ≡ false
-  unfolding endBelow
-  end-past zero i h l = absurd (omega arith)
-  end-past (suc n) i h l =
-      ⊎-elim
-      (λ t. absurd (over (rw t at h)))
-      (λ t. ⊎-elim (λ q. ap f q ∙ t) (λ q. end-past n i (rw t at h) (omega arith)) (eq-or-ne i n))
-      (bool-cases (f n))
-    where
-      over : suc n ≤ i → ⊥
-      over k = omega arith
 
   pub count-none : countBelow f 0 ≡ 0
   unfolding countBelow

@@ -19,8 +19,3 @@ countBelow f (suc n) = countBelow f n + oneIf (f n)
 unfoldable pub lastBelow : ℕ → (ℕ → Bool) → ℕ → ℕ
 lastBelow none f zero = none
 lastBelow none f (suc n) = pick (f n) n (lastBelow none f n)
-
--- one more than the last number below n that passes; 0 where there is no such number
-unfoldable pub endBelow : (ℕ → Bool) → ℕ → ℕ
-endBelow f zero = 0
-endBelow f (suc n) = pick (f n) (suc n) (endBelow f n)

@@ -3,12 +3,12 @@
 -- Assumes nothing.
 use Prim.Native.Nat.{ℕ, _<_}
 use mathlib.Core.Path.{_≡_, sym, ap, _∙_}
-use mathlib.Core.Bool.{Bool, true, false, not, _&&_, _||_, false≢true}
+use mathlib.Core.Bool.{Bool, true, false, not, _&&_, _||_}
 use mathlib.Core.List.{List}
 use mathlib.Core.Logic.{⊎-elim}
 use lib.Dec.{eqb}
 use lib.ListN.{set}
-use lib.Seq.{getD-set-other, set-getD, set-set}
+use lib.Seq.{set-getD}
 use borrow.Author.Tests.{eqb-true}
 use Rattle.basics.specs.Choice.{pick}
 use Rattle.basics.proofs.Choice.{bool-cases, or-none, or-neither}
@@ -22,10 +22,10 @@ use Rattle.page.specs.Marks.{isMarked, markedToo}
 use Rattle.picture.specs.Rows.{rowOf}
 use Rattle.reading.specs.Lists.{onList}
 use Rattle.reading.specs.Marks.{storeMarks, flashIn, phaseMarks}
+use Rattle.reading.proofs.Stable.{agree-off}
 use Rattle.picture.proofs.Phases.{anyFlashes}
 use Rattle.picture.proofs.Registers.{row-steady}
-use Rattle.kept.specs.Agreeing.{AgreeOnList}
-use Rattle.kept.proofs.Frame.{list-same, frame-law}
+use Rattle.kept.proofs.Frame.{frame-law}
 
 -- a row that was not marked too was not marked before
 not-before : (f : ℕ → Bool) (marks : List Bool) (r : ℕ) → r < 25 → isMarked (markedToo f marks) r ≡ false → isMarked marks r ≡ false
@@ -41,11 +41,6 @@ chosen-before false f marks r l e = e
 not-passed : (f : ℕ → Bool) (marks : List Bool) (r : ℕ) → r < 25 → isMarked (markedToo f marks) r ≡ false → f r ≡ false
 unfolding markedToo
 not-passed f marks r l e = or-none (isMarked marks r) (f r) (sym (table-at (λ s. isMarked marks s || f s) 25 r false l) ∙ e)
-
--- a byte that is on no list of the row: the memories agree on what is on it
-agree-off : (shown : Shown) (m : List ℕ) (p v r : ℕ) → onList shown m p r ≡ false → AgreeOnList shown m (set m p v) r
-agree-off shown m p v r off q on =
-    sym (getD-set-other m p q v 0 (λ e. false≢true (sym off ∙ ap (λ (s : ℕ). onList shown m s r) (sym e) ∙ on)))
 
 -- a store
 pub store-before :
@@ -89,23 +84,3 @@ module _ (shown : Shown) (m : List ℕ) (marks : List Bool) (r : ℕ) (l : r < 2
   unfolding phaseMarks
   phase-keeps b pat dor ror can e rom =
       row-steady shown b pat dor ror m rom r (still (not-passed (flashIn shown m) marks r l (rw can at e)))
-
--- a byte is on a row's list before a store to it exactly when it is after
-module _ (shown : Shown) (m : List ℕ) (p v r : ℕ) where
-  -- off the list before: the list is the same after
-  off-after : onList shown m p r ≡ false → onList shown (set m p v) p r ≡ false
-  off-after off = sym (list-same shown m (set m p v) r (agree-off shown m p v r off) p) ∙ off
-
-  -- off the list after: the store taken back changes nothing that the row reads
-  off-before : onList shown (set m p v) p r ≡ false → onList shown m p r ≡ false
-  off-before off =
-      sym (ap (λ (n : List ℕ). onList shown n p r) (set-set m p v (byteAt m p) ∙ set-getD m p 0))
-      ∙ sym (list-same shown (set m p v) (set (set m p v) p (byteAt m p)) r (agree-off shown (set m p v) p (byteAt m p) r off) p)
-      ∙ off
-
-  pub list-stable : onList shown m p r ≡ onList shown (set m p v) p r
-  list-stable =
-      ⊎-elim
-      (λ t. ⊎-elim (λ u. t ∙ sym u) (λ u. absurd (false≢true (sym (off-before u) ∙ t))) (bool-cases (onList shown (set m p v) p r)))
-      (λ o. o ∙ sym (off-after o))
-      (bool-cases (onList shown m p r))

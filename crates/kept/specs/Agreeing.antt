@@ -1,21 +1,11 @@
--- Two memories that agree on the places of a list, and what follows for a row.
+-- What follows for a row where two memories agree on the places of its list.
 -- Assumes nothing.
 use Prim.Native.Nat.{ℕ}
 use mathlib.Core.Path.{_≡_}
-use mathlib.Core.Bool.{Bool, true}
 use mathlib.Core.List.{List}
-use Rattle.address.specs.Places.{byteAt}
 use Rattle.shown.specs.declared.Shown.{Shown}
 use Rattle.picture.specs.Rows.{rowOf}
-use Rattle.reading.specs.Lists.{onList}
-
--- every place that passes holds the same byte in both
-abbrev pub Agree : (ℕ → Bool) → List ℕ → List ℕ → Type 0
-Agree f m n = (p : ℕ) → f p ≡ true → byteAt m p ≡ byteAt n p
-
--- on the reading list of row r, as it is in the first
-abbrev pub AgreeOnList : Shown → List ℕ → List ℕ → ℕ → Type 0
-AgreeOnList shown m n r = Agree (λ p. onList shown m p r) m n
+use Rattle.reading.specs.Agreeing.{AgreeOnList}
 
 -- the frame law: a row has the same bytes in two memories that agree on its reading list
 abbrev pub FrameLaw : Type 0

@@ -1,24 +1,28 @@
 -- The ways of an access, a command, a phase change and a draw: one law for each end of the code, from what the code learnt on the way.
 -- Assumes nothing.
-use Prim.Native.Nat.{ℕ, _/_, _<_, _≤_}
+use Prim.Native.Nat.{ℕ, _+_, _*_, _/_, _<_, _≤_}
 use mathlib.Core.Path.{_≡_, refl, sym, ap, _∙_}
 use mathlib.Core.Bool.{Bool, true, false, not, _&&_, _||_, false≢true}
 use mathlib.Core.List.{List}
+use native.Mathlib.Omega.{arith}
 use lib.Dec.{eqb}
 use lib.ListN.{length, getD, set}
 use borrow.Author.Tests.{eq-eqb, ne-eqb, le-leb, lt-leb, eqb-true, not-false}
 use Rattle.basics.specs.Bits.{bits}
 use Rattle.basics.proofs.Choice.{or-neither}
 use Rattle.basics.specs.Choice.{pick}
-use Rattle.address.specs.Boards.{memoryBytes}
-use Rattle.address.specs.Places.{blockAt, loaded}
+use Rattle.address.specs.Boards.{boardBlocks, memoryBytes}
+use Rattle.address.specs.Places.{placeOf, blockOf, placeAt, blockAt, loaded}
 use Rattle.address.specs.declared.triple.Triple.{Triple}
+use Rattle.address.specs.Triples.{legal}
+use Rattle.address.proofs.Laws.{legal-page, legal-block}
+use Rattle.address.proofs.Places.{place-within, place-block}
 use Rattle.shown.specs.declared.Shown.{Shown}
 use Rattle.shown.specs.Lengths.{romBytes, columnBytes, pictureBytes}
 use Rattle.shown.specs.Refusals.{refused7, refused8}
 use Rattle.page.specs.Marks.{allMarked, noneMarked, markedRows}
 use Rattle.picture.specs.Redraws.{redrawn}
-use Rattle.reading.specs.Marks.{phaseMarks}
+use Rattle.reading.specs.Marks.{storesMarks, codeStores, phaseMarks}
 use Rattle.command.specs.declared.answer.Answer.{Answer}
 use Rattle.command.specs.declared.answer.Answer.the-variants.{Accepted, WrongMemory, WrongAddress, WrongPhase}
 use Rattle.command.specs.declared.answer.Drawing.the-variants as drawing
@@ -88,13 +92,25 @@ module _ (reads auxiliary increments : Bool) (k : Chip) (at : Triple) (free r : 
         rw (← ea, ← ef) en in
         ap (λ (q : Processor). chip q after) er ∙ ap (λ (k : Chip). chip (incrementedIf increments auxiliary (k .processor)) (k .memory)) s ∙ rw f
 
--- the three stores of a code
+-- the three stores of a code: the marks of all three, and the three bytes at the places that the code has
 pub code-stored :
-    (t t0 t1 t2 : Triple) (k k1 k2 k3 : Chip) → t0 ≡ blockAt t 0 → t1 ≡ blockAt t 1 → t2 ≡ blockAt t 2 →
-    k1 ≡ stored t0 (registerOf (k .processor) 1) k → k2 ≡ stored t1 (registerOf (k .processor) 2) k1 →
-    k3 ≡ stored t2 (registerOf (k .processor) 3) k2 → k3 ≡ codeStored t k
-unfolding codeStored
-code-stored t t0 t1 t2 k k1 k2 k3 b0 b1 b2 s1 s2 s3 = rw (s3, s2, s1, b2, b1, b0)
+    (t : Triple) (k : Chip) (shown : Shown) (after : List Bool) (i0 i1 i2 : ℕ) → shown ≡ shownOf (k .processor) →
+    after ≡ storesMarks shown (k .memory) (codeStores t (registerOf (k .processor) 1) (registerOf (k .processor) 2) (registerOf (k .processor) 3)) (k .processor .marks) →
+    i0 ≡ placeAt (blockAt t 0) → i1 ≡ placeAt (blockAt t 1) → i2 ≡ placeAt (blockAt t 2) →
+    chip (withMarks (k .processor) after)
+    (set (set (set (k .memory) i0 (registerOf (k .processor) 1)) i1 (registerOf (k .processor) 2)) i2 (registerOf (k .processor) 3))
+    ≡ codeStored t k
+unfolding codeStored stored storesMarks codeStores
+code-stored t k shown after i0 i1 i2 es ea e0 e1 e2 = rw (ea, es, e0, e1, e2)
+
+-- where byte k of a code is stored
+pub code-place :
+    (t : Triple) (k here block i : ℕ) → here ≡ placeOf (t .x) (t .y) 0 → block ≡ blockOf (t .z) k → i ≡ here + 1024 * block → i ≡ placeAt (blockAt t k)
+code-place t k here block i eh eb ei = omega (arith, place-within (t .x) (t .y) (blockOf (t .z) k))
+
+pub code-within :
+    (t : Triple) (k here block n : ℕ) → here ≡ placeOf (t .x) (t .y) 0 → block ≡ blockOf (t .z) k → legal t ≡ true → n ≡ memoryBytes → here + 1024 * block < n
+code-within t k here block n eh eb g en = omega (arith, place-block (t .x) (t .y) 0 (legal-page boardBlocks t g) .1, legal-block boardBlocks t g)
 
 -- a phase change: refused with 1, refused with 9, the present phase, and another
 module _ (n : ℕ) (k : Chip) where

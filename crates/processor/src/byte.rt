@@ -11,9 +11,12 @@ use crate::pointer::increment_if;
 use crate::pointer::pointer;
 use crate::state::Processor;
 use address::byte::load;
+use address::place::block;
 use address::place::block_at;
 use address::place::place;
+use address::place::place_at;
 use address::triple::Triple;
+use reading::store::code_marks;
 use reading::store::store_marks;
 
 // A store marks by the lists just before it.
@@ -64,17 +67,23 @@ fn code_read(p: Processor, memory: &[u8], at: Triple) -> Processor
         .with_register(3, a)
 }
 
-// R1, R2, R3 to the C, B, A bytes, in that order.
-fn code_stored(p: Processor, memory: &mut [u8], at: Triple) -> Processor
+// R1, R2, R3 to the C, B, A bytes, in that order. Their places differ in the block alone, and what the three stores mark is asked at once,
+// before the first.
+fn code_stored(mut p: Processor, memory: &mut [u8], at: Triple) -> Processor
     requires { ⌜ (length (now memory) ≡ memoryBytes) × (legal at ≡ true) ⌝ }
     ensures { λ r. ⌜ chip r (now (memory .exit)) ≡ Rattle.processor.specs.Bytes.codeStored at (chip p (now (memory .entry))) ⌝ }
 {
     let c = p.registers[1];
     let b = p.registers[2];
     let a = p.registers[3];
-    let first = store(p, memory, block_at(at, 0), c);
-    let second = store(first, memory, block_at(at, 1), b);
-    store(second, memory, block_at(at, 2), a)
+    let before = p.marks;
+    let after = code_marks(before, p.shown(), memory, at, c, b, a);
+    let here = place_at(at.x as u16, at.y as u16, 0);
+    memory[here + 1024 * block(at.z, 0) as usize] = c;
+    memory[here + 1024 * block(at.z, 1) as usize] = b;
+    memory[here + 1024 * block(at.z, 2) as usize] = a;
+    p.marks = after;
+    p
 }
 
 // KRF: three code bytes at the main pointer.

@@ -1,173 +1,113 @@
--- The loop that marks, row after row from the top: what holds after r rows, as one record, its turn and its end.
+-- Laws of marks: rows that are marked too, once and once more, and one row after the other in any order; and the ends of a phase change.
 -- Assumes nothing.
-use Prim.Native.Nat.{ℕ, zero, suc, _+_, _≤_, _<_}
-use mathlib.Core.Path.{_≡_, refl, sym, ap, ap₂, _∙_}
-use mathlib.Core.Bool.{Bool, true, false, _&&_, _||_, and-false}
+use Prim.Native.Nat.{ℕ, _<_}
+use mathlib.Core.Path.{_≡_, sym, ap, _∙_}
+use mathlib.Core.Bool.{Bool, true, false, _&&_, _||_, or-false, or-assoc}
 use mathlib.Core.List.{List}
 use mathlib.Core.Logic.{⊎-elim}
-use lib.Seq.{getD-set-other, ext-getD}
+use lib.Seq.{getD-set-same, getD-set-other, ext-getD}
 use native.Mathlib.Omega.{arith}
-use native.Mathlib.Numerals.{add-one}
 use lib.Dec.{eqb}
 use borrow.Author.Tests.{eq-eqb, ne-eqb, not-false}
-use lib.ListN.{length, getD, take, set, length-set}
-use Rattle.basics.specs.Below.{anyBelow, endBelow}
-use Rattle.basics.specs.Parts.{table, joined}
-use Rattle.basics.proofs.Choice.{or-left, lt-or-le}
-use Rattle.basics.proofs.Below.{any-same, end-past}
-use Rattle.basics.proofs.Parts.{length-table, table-at}
-use Rattle.basics.proofs.Filled.{table-set, table-end, table-front}
-use Rattle.address.specs.declared.triple.Triple.{Triple}
-use Rattle.address.specs.Triples.{legal}
-use Rattle.address.specs.Places.{placeOf, blockOf}
-use Rattle.address.specs.Rows.{rowY}
-use Rattle.address.proofs.Laws.{facts-y, page-row, legal-page}
+use lib.ListN.{length, set, length-set}
+use Rattle.basics.specs.Below.{anyBelow}
+use Rattle.basics.proofs.Choice.{or-left, eq-or-ne}
+use Rattle.basics.proofs.Below.{any-not}
+use Rattle.basics.proofs.Parts.{length-table, table-at, table-same}
 use Rattle.shown.specs.declared.Shown.{Shown}
 use Rattle.shown.specs.Origins.{yorOf, firstBlock}
 use Rattle.shown.specs.Refusals.{canDraw}
-use Rattle.page.specs.Codes.{codeOf}
-use Rattle.page.specs.Halves.{isTall}
-use Rattle.page.specs.Inputs.{flashes}
+use Rattle.address.specs.Rows.{rowY}
 use Rattle.page.specs.Marks.{isMarked, markedToo}
-use Rattle.reading.specs.declared.key.Keys.{Keys}
-use Rattle.reading.specs.Lists.{rowHolds, cellHolds, slicesHold, hasTall, aboveHolds, onList}
-use Rattle.reading.specs.Marks.{storeMarks, flashIn, phaseMarks}
-use Rattle.reading.specs.HowAsked.{keysOf, keyed, codeBlock, rowAt, isUnmarked}
-use Rattle.reading.proofs.Tests.{marked-first}
-use Rattle.reading.proofs.Characters.{keyed-cell}
-use Rattle.reading.proofs.Places.{own-bytes, row-at}
-
--- the first r marks are those of rows that were marked or pass
-pub record MarkedTo (f : ℕ → Bool) (marks after : List Bool) (r : ℕ) : Type 0 where
-  pub within : r ≤ 25
-  pub long : length after ≡ 25
-  pub done : take r after ≡ table (λ i. isMarked marks i || f i) r
-  pub rest : (i : ℕ) → r ≤ i → isMarked after i ≡ isMarked marks i
+use Rattle.reading.specs.Marks.{flashIn, phaseMarks}
+use Rattle.reading.specs.HowAsked.{isUnmarked, flashAt}
 
 module _ (f : ℕ → Bool) (marks : List Bool) where
-  pub marked-start : length marks ≡ 25 → MarkedTo f marks marks 0
-  unfolding joined
-  marked-start h = record { within = omega arith; long = h; done = refl; rest = λ i l. refl }
+  pub marked-long : length (markedToo f marks) ≡ 25
+  unfolding markedToo
+  marked-long = length-table (λ r. isMarked marks r || f r) 25
 
-  module _ (after : List Bool) (r : ℕ) (d : MarkedTo f marks after r) where
-    pub marked-turn : r < 25 → (new : Bool) → new ≡ (isMarked marks r || f r) → MarkedTo f marks (set after r new) (r + 1)
-    marked-turn l new e =
-        let long = d .long in
-        record {
-          within = omega arith;
-          long = simp length-set long;
-          done = table-set _ after r new (d .done) e (omega arith);
-          rest = λ i k. getD-set-other after r i new false (λ q. omega arith) ∙ d .rest i (omega arith);
-        }
+  pub marked-is : (i : ℕ) → i < 25 → isMarked (markedToo f marks) i ≡ (isMarked marks i || f i)
+  unfolding markedToo
+  marked-is i l = table-at (λ r. isMarked marks r || f r) 25 i false l
 
-    pub marked-end : 25 ≤ r → after ≡ markedToo f marks
-    unfolding markedToo
-    marked-end h = table-end _ after 25 r (d .done) (d .within) h (d .long)
+  pub marked-all : (after : List Bool) → length after ≡ 25 → ((i : ℕ) → i < 25 → isMarked after i ≡ (isMarked marks i || f i)) → after ≡ markedToo f marks
+  marked-all after h e = ext-getD false after (markedToo f marks) (h ∙ sym marked-long) (λ i l. e i (omega arith) ∙ sym (marked-is i (omega arith)))
 
-    -- where the rows that were not asked are marked already
-    pub marked-early : endBelow (isUnmarked marks) 25 ≤ r → after ≡ markedToo f marks
-    unfolding markedToo
-    marked-early h =
-        let long = d .long in
-        ext-getD false after _ (long ∙ sym (length-table (λ i. isMarked marks i || f i) 25))
-        (λ i l. value i (omega arith) ∙ sym (table-at (λ k. isMarked marks k || f k) 25 i false (omega arith)))
-      where
-        value : (i : ℕ) → i < 25 → isMarked after i ≡ (isMarked marks i || f i)
-        value i l =
-            ⊎-elim
-            (λ (b : i < r). table-front (λ k. isMarked marks k || f k) after r i false (d .done) b)
-            (λ (b : r ≤ i).
-            let m : isMarked marks i ≡ true = not-false (isMarked marks i) (end-past (isUnmarked marks) 25 i (omega arith) l) in
-            d .rest i b ∙ m ∙ sym (or-left (isMarked marks i) (f i) m))
-            (lt-or-le i r)
+  -- none passes; all are marked already
+  pub marked-none : length marks ≡ 25 → ((i : ℕ) → i < 25 → f i ≡ false) → marks ≡ markedToo f marks
+  marked-none h e = marked-all marks h (λ i l. sym (ap (λ (t : Bool). isMarked marks i || t) (e i l) ∙ or-false (isMarked marks i)))
 
--- a row, by the block and the Y that the code has
-module _ (shown : Shown) (m : List ℕ) (r z y : ℕ) (ez : z ≡ firstBlock shown) (ey : y ≡ rowY (yorOf shown) r) where
-  same-row : (g : List ℕ → Bool) → anyBelow (λ x. g (codeOf m z y x)) 40 ≡ anyBelow (λ x. g (codeOf m (firstBlock shown) (rowY (yorOf shown) r) x)) 40
-  same-row g = any-same _ _ 40 (λ x l. rw (ez, ey))
+  pub marked-before : length marks ≡ 25 → anyBelow (isUnmarked marks) 25 ≡ false → marks ≡ markedToo f marks
+  marked-before h e =
+      marked-all marks h
+      (λ i l. let m = not-false (isMarked marks i) (any-not (isUnmarked marks) 25 i e l) in m ∙ sym (or-left (isMarked marks i) (f i) m))
 
-  flash-row : anyBelow (λ x. flashes (codeOf m z y x)) 40 ≡ flashIn shown m r
-  unfolding flashIn
-  flash-row = same-row flashes
+  -- two tests that agree
+  pub marked-same : (g : ℕ → Bool) → ((i : ℕ) → i < 25 → f i ≡ g i) → markedToo f marks ≡ markedToo g marks
+  unfolding markedToo
+  marked-same g e = table-same _ _ 25 (λ i l. ap (λ (t : Bool). isMarked marks i || t) (e i l))
 
-  -- the turn of a phase change
-  pub flash-turn :
-      (marks after : List Bool) (new : Bool) → MarkedTo (flashIn shown m) marks after r → r < 25
-      → new ≡ (isMarked marks r || anyBelow (λ x. flashes (codeOf m z y x)) 40) → MarkedTo (flashIn shown m) marks (set after r new) (r + 1)
-  flash-turn marks after new d l e = marked-turn _ marks after r d l new (e ∙ ap (λ (t : Bool). isMarked marks r || t) flash-row)
+  -- once and once more
+  pub marked-twice : (g h : ℕ → Bool) → ((i : ℕ) → i < 25 → (f i || g i) ≡ h i) → markedToo g (markedToo f marks) ≡ markedToo h marks
+  unfolding markedToo
+  marked-twice g h e =
+      table-same _ _ 25
+      (λ i l.
+      ap (λ (t : Bool). t || g i) (table-at (λ r. isMarked marks r || f r) 25 i false l)
+      ∙ or-assoc (isMarked marks i) (f i) (g i)
+      ∙ ap (λ (t : Bool). isMarked marks i || t) (e i l))
 
-  tall-row : anyBelow (λ x. isTall (codeOf m z y x)) 40 ≡ hasTall shown m r
-  unfolding hasTall
-  tall-row = same-row isTall
-
-  module _ (at : Triple) (lawful : legal at ≡ true) where
-    abbrev place : ℕ
-    place = placeOf (at .x) (at .y) (at .z)
-
-    slices-row :
-        (keys : Keys) → keys ≡ keysOf shown at → ((k : ℕ) → getD m k 0 < 256)
-        → anyBelow (λ x. keyed keys (codeOf m z y x)) 40 ≡ slicesHold shown m place r
-    unfolding slicesHold codeOf
-    slices-row keys ek bytes =
-        any-same _ _ 40
-        (λ x l. ap (λ (k : Keys). keyed k (codeOf m z y x)) ek ∙ keyed-cell shown at (legal-page _ at lawful) (codeOf m z y x) (bytes (placeOf x y (blockOf z 1))))
-        ∙ same-row (cellHolds shown place)
-
-    own-row : (code : Bool) → code ≡ codeBlock z (at .z) → (code && eqb y (at .y)) ≡ rowHolds shown place r
-    own-row code ec =
-        rw (ec, ez, ey) (own-bytes (at .x) (at .y) (at .z) (legal-page _ at lawful) shown r)
-
--- what the row above hands on: its own bytes, or those of the rows above that it reads, hold the byte
-abbrev handed : Shown → List ℕ → ℕ → ℕ → Bool
-handed shown m p zero = false
-handed shown m p (suc r) = rowHolds shown p r || aboveHolds shown m p r
-
-above-handed : (shown : Shown) (m : List ℕ) (p r : ℕ) → (hasTall shown m r && handed shown m p r) ≡ aboveHolds shown m p r
-unfolding aboveHolds
-above-handed shown m p zero = and-false (hasTall shown m 0)
-above-handed shown m p (suc r) = refl
-
-pub record AskedTo (shown : Shown) (m : List ℕ) (p : ℕ) (marks after : List Bool) (reached : Bool) (r : ℕ) : Type 0 where
-  pub marked : MarkedTo (onList shown m p) marks after r
-  pub down : reached ≡ handed shown m p r
-
-module _ (shown : Shown) (m : List ℕ) (at : Triple) (marks : List Bool) where
-  abbrev stored : ℕ
-  stored = placeOf (at .x) (at .y) (at .z)
-
-  pub asked-start : length marks ≡ 25 → AskedTo shown m stored marks marks false 0
-  asked-start h = record { marked = marked-start _ marks h; down = refl }
-
-  module _
-      (lawful : legal at ≡ true) (bytes : (k : ℕ) → getD m k 0 < 256) (z : ℕ) (keys : Keys) (code : Bool)
-      (ez : z ≡ firstBlock shown) (ek : keys ≡ keysOf shown at) (ec : code ≡ codeBlock z (at .z))
+  -- one row more
+  pub marked-set :
+      (g : ℕ → Bool) (after : List Bool) (r : ℕ) (new t : Bool) → after ≡ markedToo f marks → r < 25 → new ≡ (isMarked after r || t)
+      → ((i : ℕ) → i < 25 → (f i || (eqb i r && t)) ≡ g i) → set after r new ≡ markedToo g marks
+  unfolding markedToo
+  marked-set g after r new t d l en e = ext-getD false (set after r new) (markedToo g marks) (long ∙ sym (length-table (λ i. isMarked marks i || g i) 25)) (λ i h. value i (omega (arith, long)))
     where
-      pub asked-turn :
-          (yor : ℕ) → yor ≡ yorOf shown → (after : List Bool) (reached : Bool) (r row : ℕ) (above new : Bool)
-          → AskedTo shown m stored marks after reached r → r < 25 → row ≡ rowAt yor (at .y)
-          → above ≡ (anyBelow (λ x. isTall (codeOf m z (rowY yor r) x)) 40 && reached)
-          → new ≡ ((isMarked marks r || ((code && eqb r row) || above)) || anyBelow (λ x. keyed keys (codeOf m z (rowY yor r) x)) 40)
-          → AskedTo shown m stored marks (set after r new) ((code && eqb r row) || above) (r + 1)
-      unfolding onList
-      asked-turn yor eo after reached r row above new d l er ea en =
-          let y = rowY yor r in
-          let ey = ap (λ (o : ℕ). rowY o r) eo in
-          let own =
-          ap (λ (k : ℕ). code && eqb r k) er
-          ∙ ap (λ (t : Bool). code && t) (row-at yor (at .y) r l (facts-y (at .y) (page-row (at .x) (at .y) (legal-page _ at lawful))))
-          ∙ own-row shown m r z y ez ey at lawful code ec in
-          let up : above ≡ aboveHolds shown m stored r = ea ∙ ap₂ _&&_ (tall-row shown m r z y ez ey) (d .down) ∙ above-handed shown m stored r in
-          let slices = slices-row shown m r z y ez ey at lawful keys ek bytes in
-          record {
-            marked =
-                marked-turn _ marks after r (d .marked) l new
-                (en
-                ∙ ap₂ _||_ (ap (λ (t : Bool). isMarked marks r || t) (ap₂ _||_ own up)) slices
-                ∙ marked-first (isMarked marks r) (rowHolds shown stored r) (slicesHold shown m stored r) (aboveHolds shown m stored r));
-            down = rw add-one (ap₂ _||_ own up);
-          }
+      whole : length after ≡ 25
+      whole = ap length d ∙ marked-long
 
--- the two ends of a store and of a phase change
+      long : length (set after r new) ≡ 25
+      long = length-set after r new ∙ whole
+
+      step : (i : ℕ) → i < 25 → (isMarked after i || (eqb i r && t)) ≡ (isMarked marks i || g i)
+      step i h =
+          ap (λ (b : Bool). b || (eqb i r && t)) (ap (λ (a : List Bool). isMarked a i) d ∙ marked-is i h)
+          ∙ or-assoc (isMarked marks i) (f i) (eqb i r && t)
+          ∙ ap (λ (b : Bool). isMarked marks i || b) (e i h)
+
+      value : (i : ℕ) → i < 25 → isMarked (set after r new) i ≡ isMarked (markedToo g marks) i
+      value i h =
+          ⊎-elim
+          (λ (q : i ≡ r).
+          ap (isMarked (set after r new)) q
+          ∙ getD-set-same after r new false (omega (arith, whole))
+          ∙ en
+          ∙ ap (λ (k : ℕ). isMarked after k || t) (sym q)
+          ∙ ap (λ (b : Bool). isMarked after i || (b && t)) (sym (eq-eqb i r q))
+          ∙ step i h)
+          (λ (q : i ≡ r → ⊥).
+          getD-set-other after r i new false q
+          ∙ sym (or-false (isMarked after i))
+          ∙ ap (λ (b : Bool). isMarked after i || (b && t)) (sym (ne-eqb i r q))
+          ∙ step i h)
+          (eq-or-ne i r)
+          ∙ sym (table-at (λ k. isMarked marks k || g k) 25 i false h)
+
+-- what was marked before a loop passes in it too
+pub marked-again :
+    (f g : ℕ → Bool) (marks between : List Bool) → between ≡ markedToo f marks → ((i : ℕ) → i < 25 → (f i || g i) ≡ g i) → markedToo g between ≡ markedToo g marks
+marked-again f g marks between d e = ap (markedToo g) d ∙ marked-twice f marks g g e
+
+-- a phase change, by the block and the origin that the code has
+pub flash-made :
+    (shown : Shown) (m : List ℕ) (z yor : ℕ) (marks after : List Bool) → z ≡ firstBlock shown → yor ≡ yorOf shown
+    → after ≡ markedToo (λ r. flashAt m z (rowY yor r)) marks → after ≡ markedToo (flashIn shown m) marks
+unfolding flashIn
+flash-made shown m z yor marks after ez eo e = e ∙ marked-same _ marks _ (λ i l. rw (ez, eo))
+
+-- the two ends of a phase change
 module _ (shown : Shown) (drawn : Bool) (learnt : drawn ≡ canDraw shown) where
   pub phase-refused : (m : List ℕ) (marks : List Bool) → drawn ≡ false → marks ≡ phaseMarks shown m marks
   unfolding phaseMarks
@@ -176,19 +116,3 @@ module _ (shown : Shown) (drawn : Bool) (learnt : drawn ≡ canDraw shown) where
   pub phase-asked : (m : List ℕ) (marks after : List Bool) → drawn ≡ true → after ≡ markedToo (flashIn shown m) marks → after ≡ phaseMarks shown m marks
   unfolding phaseMarks
   phase-asked m marks after e q = rw (sym learnt ∙ e) q
-
-  module _ (m : List ℕ) (p v : ℕ) (marks : List Bool) where
-    pub store-refused : drawn ≡ false → marks ≡ storeMarks shown m p v marks
-    unfolding storeMarks
-    store-refused e = rw (sym learnt ∙ e)
-
-    pub store-asked :
-        (q : ℕ) → q ≡ p → drawn ≡ true → (getD m q 0 ≡ v → ⊥) → (after : List Bool) → after ≡ markedToo (onList shown m p) marks
-        → after ≡ storeMarks shown m p v marks
-    unfolding storeMarks
-    store-asked q at e other after made = made ∙ rw (sym learnt ∙ e, ← at, ne-eqb (getD m q 0) v other)
-
--- a store of the byte that is there marks nothing, whether a draw would get 7 or 8 or not
-pub store-same : (shown : Shown) (m : List ℕ) (p v : ℕ) (marks : List Bool) (q : ℕ) → q ≡ p → getD m q 0 ≡ v → marks ≡ storeMarks shown m p v marks
-unfolding storeMarks
-store-same shown m p v marks q at same = rw (← at, eq-eqb (getD m q 0) v same, and-false (canDraw shown))

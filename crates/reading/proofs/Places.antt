@@ -1,19 +1,19 @@
 -- Which rows have a byte among their own: the place of a legal triple is that of one cell's byte on the page, or of none.
 -- Assumes nothing.
 use Prim.Native.Nat.{ℕ, _+_, _-_, _%_, _≤_, _<_}
-use mathlib.Core.Path.{_≡_, sym, ap, ap₂, _∙_}
-use mathlib.Core.Bool.{Bool, true, _&&_, _||_}
+use mathlib.Core.Path.{_≡_, sym, ap, _∙_}
+use mathlib.Core.Bool.{Bool, true, false, _&&_}
 use mathlib.Core.Logic.{_⊎_, ⊎-elim}
 use native.Mathlib.Omega.{arith}
 use lib.Dec.{eqb}
-use borrow.Author.Tests.{lt-ltb, le-ltb, eq-eqb, ne-eqb, eqb-true}
-use Rattle.basics.proofs.Choice.{and-left, and-right, and-both, or-cases, or-left, or-right, eq-or-ne}
+use borrow.Author.Tests.{lt-ltb, le-ltb, eq-eqb, eqb-true}
+use Rattle.basics.proofs.Choice.{and-left, and-right, and-both, or-cases, or-left, or-right, eq-or-ne, lt-or-le}
 use Rattle.basics.proofs.Below.{any-hit, any-at}
-use Rattle.address.specs.declared.triple.Triple.{Triple}
-use Rattle.address.specs.Triples.{legalY, onPage, legal}
+use Rattle.basics.proofs.Computed.{agree-test}
+use Rattle.address.specs.Triples.{legalY, onPage}
 use Rattle.address.specs.Places.{placeOf, blockOf}
 use Rattle.address.specs.Rows.{rowY}
-use Rattle.address.proofs.Laws.{y-facts, page-column, page-row, facts-page, legal-page, row-legal, row-service, row-from-one}
+use Rattle.address.proofs.Laws.{y-facts, page-column, page-row, facts-page, row-legal, row-service, row-from-one}
 use Rattle.address.proofs.Places.{place-injective}
 use Rattle.shown.specs.declared.Shown.{Shown}
 use Rattle.shown.specs.Origins.{yorOf, firstBlock}
@@ -21,26 +21,13 @@ use Rattle.reading.specs.Lists.{codePlace, codeHolds, rowHolds}
 use Rattle.reading.specs.HowAsked.{rowAt, codeBlock}
 use Rattle.reading.proofs.Tests.{together}
 
-pub legal-row : (at : Triple) → legal at ≡ true → at .y < 32
-legal-row at e = ⊎-elim (λ r. omega arith) (λ r. omega arith) (page-row (at .x) (at .y) (legal-page _ at e))
+pub page-y : (x y : ℕ) → onPage x y ≡ true → y < 32
+page-y x y e = ⊎-elim (λ r. omega arith) (λ r. omega arith) (page-row x y e)
 
--- the code asks the three blocks in turn
-module _ (first z : ℕ) where
-  pub block-first : (a : ℕ) → a ≡ blockOf first 0 → a ≡ z → true ≡ codeBlock first z
-  unfolding codeBlock
-  block-first a ea e = sym (or-left _ _ (eq-eqb (blockOf first 0) z (sym ea ∙ e)))
-
-  pub block-second : (b : ℕ) → b ≡ blockOf first 1 → b ≡ z → true ≡ codeBlock first z
-  unfolding codeBlock
-  block-second b eb e = sym (or-right (eqb (blockOf first 0) z) _ (or-left _ _ (eq-eqb (blockOf first 1) z (sym eb ∙ e))))
-
-  pub block-third :
-      (a b c : ℕ) → a ≡ blockOf first 0 → b ≡ blockOf first 1 → c ≡ blockOf first 2 → (a ≡ z → ⊥) → (b ≡ z → ⊥) → eqb c z ≡ codeBlock first z
-  unfolding codeBlock
-  block-third a b c ea eb ec na nb =
-      sym
-      (ap₂ _||_ (ne-eqb _ _ (λ e. na (ea ∙ e)))
-      (ap₂ _||_ (ne-eqb _ _ (λ e. nb (eb ∙ e))) (ap (λ (k : ℕ). eqb k z) (omega arith))))
+-- 255 is no block of the page
+pub no-code-block : (first : ℕ) → first < 16 → codeBlock first 255 ≡ false
+unfolding codeBlock
+no-code-block = agree-test (λ first. codeBlock first 255) (λ first. false) 16 tt
 
 module _ (x y z : ℕ) (page : onPage x y ≡ true) (shown : Shown) (r : ℕ) where
   -- the row's Y and one of the three blocks
@@ -104,6 +91,9 @@ module _ (yor y : ℕ) where
   -- the number that the code has
   pub row-at-made : (f r : ℕ) → 8 ≤ y → f ≡ yor - 8 → r ≡ 1 + (y + 16 - f % 24) % 24 → r ≡ rowAt yor y
   row-at-made f r h e q = q ∙ ap (λ (g : ℕ). 1 + (y + 16 - g % 24) % 24) e ∙ sym (row-at-other h)
+
+  pub row-at-small : rowAt yor y < 25
+  row-at-small = ⊎-elim (λ l. omega (arith, row-at-service l)) (λ l. omega (arith, row-at-other l)) (lt-or-le y 8)
 
   pub row-at : (r : ℕ) → r < 25 → legalY y ≡ true → eqb r (rowAt yor y) ≡ eqb (rowY yor r) y
   row-at r l e =

@@ -1,4 +1,4 @@
--- Laws of tests: two that hold together are the same, and the ways to group three.
+-- Laws of tests: two that hold together are the same, and the parts of a row.
 -- Assumes nothing.
 use Prim.Native.Nat.{ℕ, zero, suc, _+_, _<_}
 use mathlib.Core.Path.{_≡_, refl, sym, ap, ap₂, _∙_}
@@ -13,14 +13,13 @@ together true b f g = sym (f refl)
 together false true f g = g refl
 together false false f g = refl
 
--- a row's mark: what the code asks first, and what the list names first
-pub marked-first : (mark own slices above : Bool) → ((mark || (own || above)) || slices) ≡ (mark || (own || (slices || above)))
-marked-first true own slices above = refl
-marked-first false true slices above = refl
-marked-first false false true true = refl
-marked-first false false true false = refl
-marked-first false false false true = refl
-marked-first false false false false = refl
+-- four, in two pairs
+pub or-swap : (a b c d : Bool) → ((a || b) || (c || d)) ≡ ((a || c) || (b || d))
+or-swap true b c d = refl
+or-swap false true true d = refl
+or-swap false true false d = refl
+or-swap false false true d = refl
+or-swap false false false d = refl
 
 module _ (f : ℕ → Bool) where
   -- none passes

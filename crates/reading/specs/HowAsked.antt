@@ -1,57 +1,131 @@
--- How the code asks the cells of a row whether they show the character that a store is in. Nothing here has to be believed:
--- `keyed-cell` of proofs/Characters.antt shows that the keys tell exactly the cells that read the byte, and `row-at` of
--- proofs/Places.antt that a row is found by its Y.
+-- How the code asks which rows read a byte at X and Y in one of a few blocks. Nothing here has to be believed: `keyed-cell` of
+-- proofs/Characters.antt shows that the keys tell exactly the cells that read such a byte, `row-at` of proofs/Places.antt that a row is found
+-- by its Y, `asked` of proofs/Lists.antt that the rows so asked are those whose lists hold such a byte, and `store-changes` and `code-changes`
+-- of proofs/Changes.antt that one store, and the three of a code, mark those rows.
 -- Assumes nothing.
-use Prim.Native.Nat.{ℕ, _+_, _-_, _*_, _/_, _%_}
+use Prim.Native.Nat.{ℕ, zero, suc, _+_, _-_, _*_, _/_, _%_}
 use mathlib.Core.Bool.{Bool, not, _&&_, _||_}
-use mathlib.Core.List.{List}
-use lib.Dec.{eqb, ltb}
+use mathlib.Core.List.{List, [], _∷_}
+use lib.Dec.{eqb, leb, ltb}
 use lib.ListN.{getD}
 use Rattle.basics.specs.Choice.{pick}
-use Rattle.address.specs.declared.triple.Triple.{Triple}
-use Rattle.address.specs.Places.{blockOf}
+use Rattle.basics.specs.Below.{anyBelow}
+use Rattle.address.specs.Places.{placeOf, blockOf, byteAt}
 use Rattle.shown.specs.declared.Shown.{Shown}
-use Rattle.page.specs.Marks.{isMarked}
+use Rattle.shown.specs.Refusals.{canDraw}
+use Rattle.page.specs.Codes.{codeOf}
+use Rattle.page.specs.Halves.{isTall}
+use Rattle.page.specs.Inputs.{flashes}
+use Rattle.page.specs.Marks.{isMarked, markedToo}
 use Rattle.reading.specs.declared.key.Keys.{Keys}
+use Rattle.reading.specs.Lists.{onList}
 
 -- 255 is what no part of a byte can be
 abbrev pub keyIf : Bool → ℕ → ℕ
 keyIf fits key = pick fits key 255
 
--- b / 32, b / 16 and b / 8 of the B bytes whose source can be the block: user G'0, user G'1s and quadrichrome
-abbrev pub user0Key : Shown → ℕ → ℕ
-user0Key shown z = keyIf (eqb (shown .dor % 16) z) 4
+-- Blocks are listed by three numbers, 255 where there is none: 255 is no block's number. z is one of them
+unfoldable pub isOne : List ℕ → ℕ → Bool
+isOne blocks z = eqb (getD blocks 0 0) z || (eqb (getD blocks 1 0) z || eqb (getD blocks 2 0) z)
 
-abbrev pub user1Key : Shown → ℕ → ℕ
-user1Key shown z = keyIf (eqb (shown .dor / 16 % 8) (z / 2)) (10 + z % 2)
+-- a block that is there passes
+abbrev pub passes : (ℕ → Bool) → ℕ → Bool
+passes f z = not (eqb z 255) && f z
 
+unfoldable pub someBlock : (ℕ → Bool) → List ℕ → Bool
+someBlock f blocks = passes f (getD blocks 0 0) || (passes f (getD blocks 1 0) || passes f (getD blocks 2 0))
+
+-- some block is there
+unfoldable pub someChanged : List ℕ → Bool
+someChanged blocks = not (eqb (getD blocks 0 0) 255) || (not (eqb (getD blocks 1 0) 255) || not (eqb (getD blocks 2 0) 255))
+
+-- block z where the byte at place p is not v
+unfoldable pub changedBlock : List ℕ → ℕ → ℕ → ℕ → ℕ
+changedBlock m p z v = pick (eqb (byteAt m p) v) 255 z
+
+-- b / 8 of the B bytes of quadrichrome cells whose source is the block
 abbrev pub quadKey : Shown → ℕ → ℕ
 quadKey shown z = keyIf (eqb (shown .dor / 128 % 2) (z / 8)) (24 + z % 8)
 
--- what a cell must be to read the byte at a triple
-unfoldable pub keysOf : Shown → Triple → Keys
-keysOf shown at =
+-- what a cell must be to read a byte at X and Y in one of the blocks
+unfoldable pub keysOf : Shown → ℕ → ℕ → List ℕ → Keys
+keysOf shown x y blocks =
     record {
-      character = at .y * 4 + at .x % 4;
-      user0 = user0Key shown (at .z);
-      user1 = user1Key shown (at .z);
-      quad = quadKey shown (at .z);
+      character = y * 4 + x % 4;
+      user0 = keyIf (isOne blocks (shown .dor % 16)) 4;
+      user10 = keyIf (isOne blocks (shown .dor / 16 % 8 * 2)) 10;
+      user11 = keyIf (isOne blocks (shown .dor / 16 % 8 * 2 + 1)) 11;
+      quad0 = quadKey shown (getD blocks 0 0);
+      quad1 = quadKey shown (getD blocks 1 0);
+      quad2 = quadKey shown (getD blocks 2 0);
     }
+
+-- each key is that of a B from 128 on: of no cell from the ROM
+unfoldable pub keysHigh : Keys → Bool
+keysHigh keys =
+    (leb 4 (keys .user0) && (leb 8 (keys .user10) && leb 8 (keys .user11)))
+    && (leb 16 (keys .quad0) && (leb 16 (keys .quad1) && leb 16 (keys .quad2)))
 
 -- some byte can have the source
 unfoldable pub isSource : Keys → Bool
-isSource keys = not (eqb (keys .user0) 255) || (not (eqb (keys .user1) 255) || not (eqb (keys .quad) 255))
+isSource keys =
+    not (eqb (keys .user0) 255)
+    || (not (eqb (keys .user10) 255)
+    || (not (eqb (keys .user11) 255)
+    || (not (eqb (keys .quad0) 255)
+    || (not (eqb (keys .quad1) 255)
+    || not (eqb (keys .quad2) 255)))))
 
--- the cell's C is the character, whatever C7 is
+-- the cell's C is the character, whatever C7 is, and its B is not that of a cell from the ROM
 unfoldable pub showsCharacter : ℕ → List ℕ → Bool
-showsCharacter t code = eqb (getD code 0 0 % 128) t
+showsCharacter t code = eqb (getD code 0 0 % 128) t && leb 128 (getD code 1 0)
 
 unfoldable pub fromBlock : Keys → List ℕ → Bool
 fromBlock keys code =
-    eqb (getD code 1 0 / 32) (keys .user0) || (eqb (getD code 1 0 / 16) (keys .user1) || eqb (getD code 1 0 / 8) (keys .quad))
+    (eqb (getD code 1 0 / 32) (keys .user0) || (eqb (getD code 1 0 / 16) (keys .user10) || eqb (getD code 1 0 / 16) (keys .user11)))
+    || (eqb (getD code 1 0 / 8) (keys .quad0) || (eqb (getD code 1 0 / 8) (keys .quad1) || eqb (getD code 1 0 / 8) (keys .quad2)))
 
 unfoldable pub keyed : Keys → List ℕ → Bool
-keyed keys code = showsCharacter (keys .character) code && fromBlock keys code
+keyed keys code = eqb (getD code 0 0 % 128) (keys .character) && fromBlock keys code
+
+-- the cell's A3 is set, whatever its B is
+unfoldable pub blinks : List ℕ → Bool
+blinks code = eqb (getD code 2 0 / 8 % 2) 1
+
+-- the three bytes i after those of the cell at X and Y: of another cell of the row, or of the row with the next Y
+unfoldable pub codeFrom : List ℕ → ℕ → ℕ → ℕ → ℕ → List ℕ
+codeFrom m z y x i =
+    byteAt m (placeOf x y (blockOf z 0) + i) ∷ byteAt m (placeOf x y (blockOf z 1) + i) ∷ byteAt m (placeOf x y (blockOf z 2) + i) ∷ []
+
+-- some cell of the row at Y, of the page whose first block is z
+abbrev pub tallAt : List ℕ → ℕ → ℕ → Bool
+tallAt m z y = anyBelow (λ x. isTall (codeOf m z y x)) 40
+
+abbrev pub flashAt : List ℕ → ℕ → ℕ → Bool
+flashAt m z y = anyBelow (λ x. flashes (codeOf m z y x)) 40
+
+abbrev pub characterAt : List ℕ → ℕ → ℕ → ℕ → Bool
+characterAt m z y t = anyBelow (λ x. showsCharacter t (codeOf m z y x)) 40
+
+abbrev pub keyedAt : Keys → List ℕ → ℕ → ℕ → Bool
+keyedAt keys m z y = anyBelow (λ x. keyed keys (codeOf m z y x)) 40
+
+-- from a row down, while the rows have a cell of double height
+unfoldable pub fallsTo : (ℕ → Bool) → ℕ → ℕ → Bool
+fallsTo tall row zero = eqb zero row
+fallsTo tall row (suc r) = eqb (suc r) row || (tall (suc r) && fallsTo tall row r)
+
+-- y is one from first on, below end
+unfoldable pub inGroup : ℕ → ℕ → ℕ → Bool
+inGroup first end y = leb first y && ltb y end
+
+-- row r's list holds the byte at X and Y in some block
+unfoldable pub someOnList : Shown → List ℕ → ℕ → ℕ → List ℕ → ℕ → Bool
+someOnList shown m x y blocks r = someBlock (λ z. onList shown m (placeOf x y z) r) blocks
+
+-- the marks after bytes at X and Y have changed in the blocks
+unfoldable pub changeMarks : Shown → List ℕ → ℕ → ℕ → List ℕ → List Bool → List Bool
+changeMarks shown m x y blocks marks = pick (canDraw shown) (markedToo (someOnList shown m x y blocks) marks) marks
 
 -- the screen row whose Y is y, from 1 the way back from 8 + (YOR − 8 + r − 1) modulo 24
 unfoldable pub rowAt : ℕ → ℕ → ℕ
@@ -64,3 +138,6 @@ isUnmarked marks r = not (isMarked marks r)
 -- z is one of the three blocks of the page
 unfoldable pub codeBlock : ℕ → ℕ → Bool
 codeBlock first z = eqb (blockOf first 0) z || (eqb (blockOf first 1) z || eqb (blockOf first 2) z)
+
+unfoldable pub someCodeBlock : ℕ → List ℕ → Bool
+someCodeBlock first blocks = codeBlock first (getD blocks 0 0) || (codeBlock first (getD blocks 1 0) || codeBlock first (getD blocks 2 0))

@@ -1,3 +1,4 @@
 pub mod Lists
 pub mod Marks
+pub mod Agreeing
 pub mod HowAsked

@@ -1,19 +1,22 @@
-// Which cells read the byte at a triple as a slice. X and Y leave one character, and Z with DOR at most one value for each of three
-// parts of B: so a cell is asked by comparing its bytes, and no place is worked out.
+// Which cells read a byte at X and Y in one of a few blocks as a slice. X and Y leave one character; the blocks and DOR leave at most
+// six values of parts of B: so a cell is asked by comparing its bytes, and no place is worked out.
 ghost use mathlib.Core.Path.{_≡_};
-ghost use Rattle.address.specs.Triples.{legal};
 ghost use mathlib.Core.Bool.{true};
-ghost use Rattle.reading.specs.HowAsked.{keyIf, keysOf, isSource, codeBlock};
+ghost use Prim.Native.Nat.{_<_};
+ghost use Rattle.reading.specs.HowAsked.{keyIf, quadKey, keysOf, isSource, isOne, someChanged, codeBlock, someCodeBlock};
 use address::place::block;
-use address::triple::Triple;
 use shown::Shown;
 
-// The character, and b / 32, b / 16 and b / 8 of the B bytes whose source is the block; 255 where no byte's is.
+// The character; then b / 32, b / 16 and b / 8 of the B bytes whose source is one of the blocks: user G'0, user G'10 and G'11, and
+// quadrichrome in each block. 255 where no byte's is.
 pub struct Keys {
     pub character: u8,
     pub user0: u8,
-    pub user1: u8,
-    pub quad: u8,
+    pub user10: u8,
+    pub user11: u8,
+    pub quad0: u8,
+    pub quad1: u8,
+    pub quad2: u8,
 }
 
 fn key_if(fits: bool, key: u8) -> u8
@@ -25,15 +28,33 @@ fn key_if(fits: bool, key: u8) -> u8
     255
 }
 
-pub fn keys_of(shown: Shown, at: Triple) -> Keys
-    requires { ⌜ legal at ≡ true ⌝ }
-    ensures { λ r. ⌜ r ≡ keysOf shown at ⌝ }
+// Z is one of the blocks.
+fn is_one(blocks: [u8; 3], z: u8) -> bool
+    ensures { λ r. ⌜ r ≡ isOne blocks z ⌝ }
 {
+    (blocks[0] == z) | ((blocks[1] == z) | (blocks[2] == z))
+}
+
+fn quad_key(shown: Shown, z: u8) -> u8
+    ensures { λ r. ⌜ r ≡ quadKey shown z ⌝ }
+{
+    key_if(shown.dor / 128 % 2 == z / 8, 24 + z % 8)
+}
+
+// The blocks are numbers of blocks, or 255.
+pub fn keys_of(shown: Shown, x: u8, y: u8, blocks: [u8; 3]) -> Keys
+    requires { ⌜ y < 32 ⌝ }
+    ensures { λ r. ⌜ r ≡ keysOf shown x y blocks ⌝ }
+{
+    let d = shown.dor / 16 % 8 * 2;
     Keys {
-        character: at.y * 4 + at.x % 4,
-        user0: key_if(shown.dor % 16 == at.z, 4),
-        user1: key_if(shown.dor / 16 % 8 == at.z / 2, 10 + at.z % 2),
-        quad: key_if(shown.dor / 128 % 2 == at.z / 8, 24 + at.z % 8),
+        character: y * 4 + x % 4,
+        user0: key_if(is_one(blocks, shown.dor % 16), 4),
+        user10: key_if(is_one(blocks, d), 10),
+        user11: key_if(is_one(blocks, d + 1), 11),
+        quad0: quad_key(shown, blocks[0]),
+        quad1: quad_key(shown, blocks[1]),
+        quad2: quad_key(shown, blocks[2]),
     }
 }
 
@@ -44,21 +65,44 @@ pub fn is_source(keys: Keys) -> bool
     if keys.user0 != 255 {
         return true;
     }
-    if keys.user1 != 255 {
+    if keys.user10 != 255 {
         return true;
     }
-    keys.quad != 255
+    if keys.user11 != 255 {
+        return true;
+    }
+    if keys.quad0 != 255 {
+        return true;
+    }
+    if keys.quad1 != 255 {
+        return true;
+    }
+    keys.quad2 != 255
+}
+
+// A byte changes in some block.
+pub fn some_changed(blocks: [u8; 3]) -> bool
+    ensures { λ r. ⌜ r ≡ someChanged blocks ⌝ }
+{
+    if blocks[0] != 255 {
+        return true;
+    }
+    if blocks[1] != 255 {
+        return true;
+    }
+    blocks[2] != 255
 }
 
 // Z is one of the three blocks of a page.
-pub fn is_code_block(first: u8, z: u8) -> bool
+fn is_code_block(first: u8, z: u8) -> bool
     ensures { λ r. ⌜ r ≡ codeBlock first z ⌝ }
 {
-    if block(first, 0) == z {
-        return true;
-    }
-    if block(first, 1) == z {
-        return true;
-    }
-    block(first, 2) == z
+    (block(first, 0) == z) | ((block(first, 1) == z) | (block(first, 2) == z))
+}
+
+pub fn some_code_block(first: u8, blocks: [u8; 3]) -> bool
+    ensures { λ r. ⌜ r ≡ someCodeBlock first blocks ⌝ }
+{
+    is_code_block(first, blocks[0])
+        | (is_code_block(first, blocks[1]) | is_code_block(first, blocks[2]))
 }

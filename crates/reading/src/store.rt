@@ -1,60 +1,108 @@
-// What a store marks. The place's X, Y and Z say at once which row could hold the byte as one of its own, and which one character in
-// which block could have it as a slice; a row that is marked already is not asked.
+// What a store marks, and what the three stores of a code do, which differ in the block alone.
 ghost use mathlib.Core.Path.{_≡_};
 ghost use mathlib.Core.Bool.{true};
+ghost use Prim.Native.Nat.{_+_, _*_, _<_};
 ghost use lib.ListN.{length};
-ghost use Rattle.basics.specs.Below.{endBelow};
-ghost use Rattle.address.specs.Boards.{memoryBytes};
-ghost use Rattle.address.specs.Triples.{legal};
+ghost use Rattle.basics.specs.Below.{anyBelow};
+ghost use Rattle.address.specs.Boards.{boardBlocks, memoryBytes};
+ghost use Rattle.address.specs.Triples.{legal, onPage};
 ghost use Rattle.address.specs.Places.{placeOf};
-ghost use Rattle.reading.specs.Lists.{onList};
 ghost use Rattle.page.specs.Marks.{markedToo};
-ghost use Rattle.reading.specs.Marks.{storeMarks};
-ghost use Rattle.reading.specs.HowAsked.{isUnmarked};
-use crate::key::is_code_block;
-use crate::key::keys_of;
-use crate::own::row_at;
-use crate::row::is_marked_or_keyed;
-use crate::row::is_reached;
-use address::place::place;
+ghost use Rattle.reading.specs.Marks.{storeMarks, storesMarks, codeStores};
+ghost use Rattle.reading.specs.HowAsked.{isUnmarked, changedBlock, someOnList, changeMarks};
+use crate::key::some_changed;
+use crate::list::list_marks;
+use address::place::block;
+use address::place::place_at;
 use address::triple::Triple;
 use shown::Shown;
 
-// One more than the last row that is not marked: from there on no row is asked.
-fn unmarked_end(marks: [bool; 25]) -> usize
-    ensures { λ n. ⌜ n ≡ endBelow (isUnmarked marks) 25 ⌝ }
+// From the last row up: after a draw that is the first look.
+fn some_unmarked(marks: &[bool; 25]) -> bool
+    ensures { λ r. ⌜ r ≡ anyBelow (isUnmarked (now (marks .entry))) 25 ⌝ }
 {
-    let mut end = 0;
-    for r in 0..25 {
+    let mut r = 25;
+    while r > 0 {
+        r -= 1;
         if !marks[r] {
-            end = r + 1;
+            return true;
         }
     }
-    end
+    false
 }
 
-// The rows are asked from the top, so that each hands on to the one below whether its own bytes, or those of the rows above that it
-// reads, hold the byte.
-fn list_marks(marks: [bool; 25], shown: Shown, memory: &[u8], at: Triple) -> [bool; 25]
-    requires { ⌜ (length (now memory) ≡ memoryBytes) × (legal at ≡ true) ⌝ }
-    ensures { λ r. ⌜ r ≡ markedToo (onList shown (now (memory .entry)) (placeOf (at .x) (at .y) (at .z))) marks ⌝ }
+// Where every row is marked none is asked.
+fn asked_marks(
+    marks: [bool; 25],
+    shown: Shown,
+    memory: &[u8],
+    x: u8,
+    y: u8,
+    blocks: [u8; 3],
+) -> [bool; 25]
+    requires { ⌜ (length (now memory) ≡ memoryBytes) × (onPage x y ≡ true) ⌝ }
+    ensures { λ r. ⌜ r ≡ markedToo (someOnList shown (now (memory .entry)) x y blocks) marks ⌝ }
 {
-    let z = shown.first_block();
-    let keys = keys_of(shown, at);
-    let code = is_code_block(z, at.z);
-    let end = unmarked_end(marks);
     let mut after = marks;
-    let mut reached = false;
-    for r in 0..end {
-        let yor = shown.yor();
-        let row = row_at(yor, at.y);
-        let own = code & (r as u8 == row);
-        let above = is_reached(memory, z, yor, r as u8, reached);
-        reached = own | above;
-        let known = marks[r] | reached;
-        after[r] = is_marked_or_keyed(memory, z, yor, r as u8, keys, known);
+    if some_unmarked(&after) {
+        list_marks(&mut after, shown, memory, x, y, blocks);
     }
     after
+}
+
+// The marks after bytes at X and Y have changed in the blocks.
+fn change_marks(
+    marks: [bool; 25],
+    shown: Shown,
+    memory: &[u8],
+    x: u8,
+    y: u8,
+    blocks: [u8; 3],
+) -> [bool; 25]
+    requires { ⌜ (length (now memory) ≡ memoryBytes) × (onPage x y ≡ true) ⌝ }
+    ensures { λ r. ⌜ r ≡ changeMarks shown (now (memory .entry)) x y blocks marks ⌝ }
+{
+    if shown.can_draw() {
+        return asked_marks(marks, shown, memory, x, y, blocks);
+    }
+    marks
+}
+
+// Block Z where the value changes the byte that it has at this offset, and else 255.
+fn changed_block(memory: &[u8], at: usize, z: u8, value: u8) -> u8
+    requires { ⌜ (length (now memory) ≡ memoryBytes) × (at < 1024) × (z < boardBlocks) ⌝ }
+    ensures { λ r. ⌜ r ≡ changedBlock (now (memory .entry)) (1024 * z + at) z value ⌝ }
+{
+    if memory[z as usize * 1024 + at] == value {
+        return 255;
+    }
+    z
+}
+
+// The marks after C, B and A are stored at a legal triple and in the two blocks after its own; the stores themselves come after. Three
+// stores mark what the lists before the first of them hold, so one look at a row answers for all three.
+pub fn code_marks(
+    marks: [bool; 25],
+    shown: Shown,
+    memory: &[u8],
+    at: Triple,
+    c: u8,
+    b: u8,
+    a: u8,
+) -> [bool; 25]
+    requires { ⌜ (length (now memory) ≡ memoryBytes) × (legal at ≡ true) ⌝ }
+    ensures { λ r. ⌜ r ≡ storesMarks shown (now (memory .entry)) (codeStores at c b a) marks ⌝ }
+{
+    let here = place_at(at.x as u16, at.y as u16, 0);
+    let blocks = [
+        changed_block(memory, here, block(at.z, 0), c),
+        changed_block(memory, here, block(at.z, 1), b),
+        changed_block(memory, here, block(at.z, 2), a),
+    ];
+    if !some_changed(blocks) {
+        return marks;
+    }
+    change_marks(marks, shown, memory, at.x, at.y, blocks)
 }
 
 // The marks after a store of `value` at a legal triple; the store itself comes after.
@@ -68,12 +116,10 @@ pub fn store_marks(
     requires { ⌜ (length (now memory) ≡ memoryBytes) × (legal at ≡ true) ⌝ }
     ensures { λ r. ⌜ r ≡ storeMarks shown (now (memory .entry)) (placeOf (at .x) (at .y) (at .z)) value marks ⌝ }
 {
-    let p = place(at);
-    if memory[p] == value {
+    let here = place_at(at.x as u16, at.y as u16, 0);
+    let blocks = [changed_block(memory, here, at.z, value), 255, 255];
+    if !some_changed(blocks) {
         return marks;
     }
-    if shown.can_draw() {
-        return list_marks(marks, shown, memory, at);
-    }
-    marks
+    change_marks(marks, shown, memory, at.x, at.y, blocks)
 }

@@ -1,7 +1,9 @@
-use Rattle.address.specs.Boards.{boardDistricts}
-use Rattle.address.proofs.Places.{legal-block-at}
+use lib.ListN.{length-set}
+use mathlib.Core.Path.{refl}
+use native.Mathlib.Omega.{arith}
+use Rattle.address.specs.Boards.{memoryBytes}
 use Rattle.processor.specs.States.{chip}
-use Rattle.processor.proofs.Ways.{code-stored}
+use Rattle.processor.proofs.Ways.{code-within, code-place, code-stored}
 use borrow.Author.Needs.{needs}
 use Rattle.processor.proofs.byte.code_stored.Statement.{statement}
 use Rattle.processor.proofs.byte.code_stored.Tie as tie
@@ -15,36 +17,83 @@ element-copy-out-b c = search needs
 element-copy-out-a : tie.Need-element-copy-out-a
 element-copy-out-a c = search needs
 
-block-at-requires : tie.Need-block-at-requires
-block-at-requires c κs = search needs
+shown-requires : tie.Need-shown-requires
+shown-requires c κs = search needs
 
-store-requires : tie.Need-store-requires
-store-requires c κs = let s = c .before .before .before .before .before .before in (search needs, legal-block-at boardDistricts _ _ _ (c .block-at .ensures) (s .pre .1))
+code-marks-requires : tie.Need-code-marks-requires
+code-marks-requires c κs = search needs
 
-block-at-requires-2 : tie.Need-block-at-requires-2
-block-at-requires-2 c κs = search needs
+cast-place-at : tie.Need-cast-place-at
+cast-place-at c = search needs
 
-store-requires-2 : tie.Need-store-requires-2
-store-requires-2 c κs = let s = c .before .before .before .before .before .before .before .before .before .before .before in
-    (search needs, legal-block-at boardDistricts _ _ _ (c .block-at2 .ensures) (s .pre .1))
+cast-place-at-2 : tie.Need-cast-place-at-2
+cast-place-at-2 c = search needs
 
-block-at-requires-3 : tie.Need-block-at-requires-3
-block-at-requires-3 c κs = search needs
+place-at-requires : tie.Need-place-at-requires
+place-at-requires c κs = search needs
 
-store-requires-3 : tie.Need-store-requires-3
-store-requires-3 c κs = let s = c .before .before .before .before .before .before .before .before .before .before .before .before .before .before .before .before in
-    (search needs, legal-block-at boardDistricts _ _ _ (c .block-at3 .ensures) (s .pre .1))
+block-requires : tie.Need-block-requires
+block-requires c κs = search needs
+
+cast-memory : tie.Need-cast-memory
+cast-memory c = search needs
+
+mul-memory : tie.Need-mul-memory
+mul-memory c = search needs
+
+add-memory : tie.Need-add-memory
+add-memory c = let s = c .before .before .before .before .before .before .before .before .before .before .before .before in
+    omega (arith, code-within (s .args .at) 0 _ _ memoryBytes (c .before .place-at .ensures) (c .block .ensures) (s .pre .1) refl)
+
+slice-write-memory : tie.Need-slice-write-memory
+slice-write-memory c = let s = c .before .before .before .before .before .before .before .before .before .before .before .before in
+    code-within (s .args .at) 0 _ _ _ (c .before .place-at .ensures) (c .block .ensures) (s .pre .1) (s .pre .0)
+
+block-requires-2 : tie.Need-block-requires-2
+block-requires-2 c κs = search needs
+
+cast-memory-2 : tie.Need-cast-memory-2
+cast-memory-2 c = search needs
+
+mul-memory-2 : tie.Need-mul-memory-2
+mul-memory-2 c = search needs
+
+add-memory-2 : tie.Need-add-memory-2
+add-memory-2 c = let s = c .before .before .before .before .before .before .before .before .before .before .before .before .before in
+    omega (arith, code-within (s .args .at) 1 _ _ memoryBytes (c .before .before .place-at .ensures) (c .block2 .ensures) (s .pre .1) refl)
+
+slice-write-memory-2 : tie.Need-slice-write-memory-2
+slice-write-memory-2 c = let s = c .before .before .before .before .before .before .before .before .before .before .before .before .before in
+    code-within (s .args .at) 1 _ _ _ (c .before .before .place-at .ensures) (c .block2 .ensures) (s .pre .1) (search needs)
+
+block-requires-3 : tie.Need-block-requires-3
+block-requires-3 c κs = search needs
+
+cast-memory-3 : tie.Need-cast-memory-3
+cast-memory-3 c = search needs
+
+mul-memory-3 : tie.Need-mul-memory-3
+mul-memory-3 c = search needs
+
+add-memory-3 : tie.Need-add-memory-3
+add-memory-3 c = let s = c .before .before .before .before .before .before .before .before .before .before .before .before .before .before in
+    omega (arith, code-within (s .args .at) 2 _ _ memoryBytes (c .before .before .before .place-at .ensures) (c .block3 .ensures) (s .pre .1) refl)
+
+slice-write-memory-3 : tie.Need-slice-write-memory-3
+slice-write-memory-3 c = let s = c .before .before .before .before .before .before .before .before .before .before .before .before .before .before in
+    code-within (s .args .at) 2 _ _ _ (c .before .before .before .place-at .ensures) (c .block3 .ensures) (s .pre .1) (simp length-set (s .pre .0))
 
 same-length : tie.Need-same-length
 same-length c = search needs
 
 returns : tie.Need-returns
-returns c = let s3 = c .before .before in
-    let s2 = s3 .before .before .before .before .before in
-    let s1 = s2 .before .before .before .before .before in
-    let a = s1 .before .before .before .before .before .before .before .args in
-    code-stored _ _ _ _ (chip (a .t1) (a .memory .now)) _ _ _ (s1 .before .block-at .ensures) (s2 .before .block-at2 .ensures) (s3 .before .block-at3 .ensures)
-    (s1 .store .ensures) (s2 .store2 .ensures) (s3 .store3 .ensures)
+returns c = let h = c .before .before .before in
+    let m = h .before .before .before in
+    let s = m .before .before .before .before .before .before .before .before in
+    code-stored (s .args .at) (chip (s .args .t1) (s .args .memory .now)) _ _ _ _ _ (m .before .before .shown .ensures) (m .code-marks .ensures)
+    (code-place (s .args .at) 0 _ _ _ (h .place-at .ensures) (c .before .before .block .ensures) refl)
+    (code-place (s .args .at) 1 _ _ _ (h .place-at .ensures) (c .before .block2 .ensures) refl)
+    (code-place (s .args .at) 2 _ _ _ (h .place-at .ensures) (c .block3 .ensures) refl)
 
 pub code-stored-spec : {M : Type 1} → statement M
 code-stored-spec =
@@ -53,11 +102,25 @@ code-stored-spec =
     element-copy-out-c
     element-copy-out-b
     element-copy-out-a
-    block-at-requires
-    store-requires
-    block-at-requires-2
-    store-requires-2
-    block-at-requires-3
-    store-requires-3
+    shown-requires
+    code-marks-requires
+    cast-place-at
+    cast-place-at-2
+    place-at-requires
+    block-requires
+    cast-memory
+    mul-memory
+    add-memory
+    slice-write-memory
+    block-requires-2
+    cast-memory-2
+    mul-memory-2
+    add-memory-2
+    slice-write-memory-2
+    block-requires-3
+    cast-memory-3
+    mul-memory-3
+    add-memory-3
+    slice-write-memory-3
     same-length
     returns)

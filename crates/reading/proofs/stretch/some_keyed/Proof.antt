@@ -1,10 +1,10 @@
 use Rattle.address.specs.Boards.{boardBlocks, memoryBytes}
 use Prim.Native.Nat.{_+_, _≤_, _-_}
-use mathlib.Core.Path.{_≡_, refl, ap, _∙_}
+use mathlib.Core.Path.{_≡_, refl}
 use native.Mathlib.Omega.{arith}
 use Rattle.basics.specs.Below.{anyBelow}
 use Rattle.page.specs.Codes.{codeOf}
-use Rattle.basics.proofs.Below.{gathered}
+use Rattle.basics.proofs.Below.{gathered, gathered-end}
 use Rattle.reading.specs.HowAsked.{keyed}
 use Rattle.reading.proofs.Rows.{stretch-fits, stretch-c, stretch-b, keyed-test}
 use borrow.Author.Needs.{needs}
@@ -47,15 +47,13 @@ loop-less : tie.Need-loop-less Inv-loop μ-loop
 loop-less c = omega arith
 
 loop-again : tie.Need-loop-again Inv-loop μ-loop
-loop-again c = let a = c .before .before .before .before .before .before .before in
+loop-again c = let a = c .before .before .before .before .before .before .before .before .before .before in
     let l = a .loop in
     let s = a .before .before .before .before .args in
     (omega arith, l .inv .1, l .inv .2, gathered _ _ _ _ (l .inv .3) (keyed-test _ _ _ (s .keys) (stretch-c (s .first) (l .i) (omega arith) (omega arith) _ _ _ _ (a .before .before .start .ensures)) (stretch-b (s .first) (l .i) (omega arith) (omega arith) _ _ _ _ (a .before .start2 .ensures))))
 
 returns : tie.Need-returns Inv-loop μ-loop
-returns c = let l = c .before .loop in
-    let e : l .i ≡ c .before .before .before .before .before .args .n = omega arith in
-    l .inv .3 ∙ ap (anyBelow _) e
+returns c = let l = c .before .loop in gathered-end _ _ _ _ (l .inv .3) (l .inv .0) (c .loop-test .left)
 
 pub some-keyed-spec : {M : Type 1} → statement M
 some-keyed-spec =
