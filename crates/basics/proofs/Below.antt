@@ -1,7 +1,7 @@
 -- Laws of what is asked of a test at the numbers below n: a turn of a loop, its end, and two tests that agree.
 -- Assumes nothing.
 use Prim.Native.Nat.{ℕ, zero, suc, _+_, _<_, _≤_}
-use mathlib.Core.Bool.{Bool, true, false, _||_, false≢true}
+use mathlib.Core.Bool.{Bool, true, false, _||_, false≢true, or-false, or-assoc}
 use mathlib.Core.Path.{_≡_, refl, ap, ap₂, sym, _∙_}
 use mathlib.Core.Logic.{⊎-elim}
 use native.Mathlib.Numerals.{add-one}
@@ -59,6 +59,22 @@ module _ (f : ℕ → Bool) where
   pub any-not : (n i : ℕ) → anyBelow f n ≡ false → i < n → f i ≡ false
   any-not n i e h =
       ⊎-elim (λ t. absurd (false≢true (sym e ∙ any-hit n i h t))) (λ t. t) (bool-cases (f i))
+
+  -- none passes
+  pub any-never : (n : ℕ) → ((i : ℕ) → i < n → f i ≡ false) → anyBelow f n ≡ false
+  unfolding anyBelow
+  any-never zero h = refl
+  any-never (suc n) h = ap₂ _||_ (any-never n (λ i l. h i (omega arith))) (h n (omega arith))
+
+  -- the numbers below a + b are those below a, and the b from a on
+  pub any-split : (a b : ℕ) → anyBelow f (a + b) ≡ (anyBelow f a || anyBelow (λ i. f (a + i)) b)
+  unfolding anyBelow
+  any-split a zero = let e : a + 0 ≡ a = omega arith in rw e (sym (or-false (anyBelow f a)))
+  any-split a (suc b) =
+      let e : a + suc b ≡ suc (a + b) = omega arith in
+      ap (anyBelow f) e
+      ∙ ap (λ (t : Bool). t || f (a + b)) (any-split a b)
+      ∙ or-assoc (anyBelow f a) (anyBelow (λ i. f (a + i)) b) (f (a + b))
 
   pub count-none : countBelow f 0 ≡ 0
   unfolding countBelow

@@ -1,15 +1,15 @@
 -- Laws of a stretch of cells: its bytes stand side by side, the tests of its bytes are those of its cells, and a row is two stretches.
 -- Assumes nothing.
-use Prim.Native.Nat.{ℕ, zero, suc, _+_, _/_, _%_, _≤_, _<_}
+use Prim.Native.Nat.{ℕ, _+_, _/_, _%_, _≤_, _<_}
 use mathlib.Core.Path.{_≡_, refl, sym, ap, ap₂, _∙_}
-use mathlib.Core.Bool.{Bool, not, _&&_, _||_, or-false, or-assoc}
+use mathlib.Core.Bool.{Bool, not, _&&_, _||_}
 use mathlib.Core.List.{List, [], _∷_}
 use mathlib.Core.Logic.{⊎-elim}
 use native.Mathlib.Omega.{arith}
 use lib.Dec.{ltb, eqb}
 use lib.ListN.{getD}
 use Rattle.basics.specs.Below.{anyBelow}
-use Rattle.basics.proofs.Below.{any-same}
+use Rattle.basics.proofs.Below.{any-same, any-split}
 use Rattle.basics.proofs.Choice.{lt-or-le, eq-or-ne}
 use Rattle.basics.proofs.Computed.{agree-test}
 use Rattle.address.specs.Boards.{boardBlocks, bytesOf}
@@ -88,18 +88,18 @@ pub within-less : (s : Starts) (n i : ℕ) → Within s n → i < n → Within s
 within-less s n i w l = (omega (arith, w .0), omega (arith, w .1), omega (arith, w .2))
 
 -- a bichrome cell's B
-bichrome : (b : ℕ) → b < 256 → ltb b 192 ≡ not (isQuadrichrome b)
-bichrome = agree-test (λ b. ltb b 192) (λ b. not (isQuadrichrome b)) 256 tt
+pub bichrome-test : (b : ℕ) → b < 256 → ltb b 192 ≡ not (isQuadrichrome b)
+bichrome-test = agree-test (λ b. ltb b 192) (λ b. not (isQuadrichrome b)) 256 tt
 
 -- the tests of a cell, by the bytes that the code reads
 module _ (code : List ℕ) where
   pub tall-test : (b : ℕ) → b < 256 → b ≡ getD code 1 0 → (ltb b 192 && eqb (b / 2 % 2) 1) ≡ isTall code
   unfolding isTall
-  tall-test b h e = ap (λ (t : Bool). t && eqb (b / 2 % 2) 1) (bichrome b h) ∙ rw e
+  tall-test b h e = ap (λ (t : Bool). t && eqb (b / 2 % 2) 1) (bichrome-test b h) ∙ rw e
 
   pub wide-test : (b : ℕ) → b < 256 → b ≡ getD code 1 0 → (ltb b 192 && eqb (b / 8 % 2) 1) ≡ isWide code
   unfolding isWide
-  wide-test b h e = ap (λ (t : Bool). t && eqb (b / 8 % 2) 1) (bichrome b h) ∙ rw e
+  wide-test b h e = ap (λ (t : Bool). t && eqb (b / 8 % 2) 1) (bichrome-test b h) ∙ rw e
 
 -- cell i of a stretch goes on from the one above it, by the six bytes that the code reads
 pub goes-on-test :
@@ -126,18 +126,8 @@ pub goes-on-from :
 goes-on-from first i column side m y u z here above h a =
     rw (code-from first i column side m y z here (h .0) (h .1) (h .2), code-from first i column side m u z above (a .0) (a .1) (a .2))
 
-module _ (f : ℕ → Bool) where
-  -- the numbers below a + b are those below a, and the b from a on
-  pub any-split : (a b : ℕ) → anyBelow f (a + b) ≡ (anyBelow f a || anyBelow (λ i. f (a + i)) b)
-  unfolding anyBelow
-  any-split a zero = let e : a + 0 ≡ a = omega arith in rw e (sym (or-false (anyBelow f a)))
-  any-split a (suc b) =
-      let e : a + suc b ≡ suc (a + b) = omega arith in
-      ap (anyBelow f) e
-      ∙ ap (λ (t : Bool). t || f (a + b)) (any-split a b)
-      ∙ or-assoc (anyBelow f a) (anyBelow (λ i. f (a + i)) b) (f (a + b))
-
-  -- the two stretches of a row
-  pub row-stretches : (left right : Bool) → left ≡ anyBelow (λ i. f (0 + i)) 32 → right ≡ anyBelow (λ i. f (32 + i)) 8 → (left || right) ≡ anyBelow f 40
-  row-stretches left right p q =
-      ap₂ _||_ (p ∙ any-same (λ i. f (0 + i)) f 32 (λ i l. ap f (omega arith))) q ∙ sym (any-split 32 8)
+-- the two stretches of a row
+pub row-stretches :
+    (f : ℕ → Bool) (left right : Bool) → left ≡ anyBelow (λ i. f (0 + i)) 32 → right ≡ anyBelow (λ i. f (32 + i)) 8 → (left || right) ≡ anyBelow f 40
+row-stretches f left right p q =
+    ap₂ _||_ (p ∙ any-same (λ i. f (0 + i)) f 32 (λ i l. ap f (omega arith))) q ∙ sym (any-split f 32 8)

@@ -10,81 +10,32 @@ use lib.Dec.{ltb, leb, eqb}
 use lib.ListN.{getD}
 use borrow.Author.Tests.{ne-eqb, eqb-true, leb-true, le-leb, not-false}
 use Rattle.basics.specs.Below.{anyBelow}
-use Rattle.basics.proofs.Below.{any-not, any-same}
+use Rattle.basics.proofs.Below.{any-not, any-same, any-never, any-split}
 use Rattle.basics.proofs.Choice.{bool-cases, lt-or-le, eq-or-ne, and-left, and-right, and-both, or-cases, or-none, or-neither}
-use Rattle.basics.proofs.Computed.{agree-test}
 use Rattle.address.specs.Boards.{bytesOf}
 use Rattle.address.specs.Places.{placeOf, blockOf}
 use Rattle.address.proofs.Laws.{place-left, place-service, place-right}
 use Rattle.address.proofs.Places.{place-within}
 use Rattle.cell.specs.Cells.{isQuadrichrome}
 use Rattle.page.specs.Codes.{codeOf}
-use Rattle.page.specs.Halves.{isTall}
 use Rattle.page.specs.Inputs.{flashes}
 use Rattle.reading.specs.declared.key.Keys.{Keys}
 use Rattle.reading.specs.HowAsked.{keysHigh, isSource, showsCharacter, fromBlock, keyed, blinks, codeFrom, characterAt, keyedAt}
-use Rattle.reading.proofs.Tests.{or-swap, any-never, any-split, row-stretches}
+use Rattle.page.proofs.Stretches.{stretch-place, bichrome-test, row-stretches}
+use Rattle.reading.proofs.Tests.{or-swap}
 
--- a stretch that crosses from column 31 to column 32 has two starts; another has one
-module _ (first i : ℕ) (column : first + i < 40) (side : first % 32 + i < 32) where
-  pub stretch-place : (y z : ℕ) → placeOf first y z + i ≡ placeOf (first + i) y z
-  stretch-place y z =
-      ⊎-elim
-      (λ l. omega (arith, place-left first y z l, place-left (first + i) y z (omega arith)))
-      (λ l.
-      ⊎-elim
-      (λ e. omega (arith, place-service first y z l e, place-service (first + i) y z (omega arith) e))
-      (λ n. omega (arith, place-right first y z l n, place-right (first + i) y z (omega arith) n))
-      (eq-or-ne y 0))
-      (lt-or-le first 32)
-
-  pub stretch-code : (m : List ℕ) (y z : ℕ) → codeFrom m z y first i ≡ codeOf m z y (first + i)
-  unfolding codeFrom codeOf
-  stretch-code m y z = rw (stretch-place y (blockOf z 0), stretch-place y (blockOf z 1), stretch-place y (blockOf z 2))
-
-  module _ (m : List ℕ) (y z start : ℕ) where
-    byte : (k : ℕ) → start ≡ placeOf first y (blockOf z k) → getD m (start + i) 0 ≡ getD m (placeOf (first + i) y (blockOf z k)) 0
-    byte k e = ap (λ (p : ℕ). getD m p 0) (ap (λ (s : ℕ). s + i) e ∙ stretch-place y (blockOf z k))
-
-    pub stretch-c : start ≡ placeOf first y (blockOf z 0) → getD m (start + i) 0 ≡ getD (codeOf m z y (first + i)) 0 0
-    unfolding codeOf
-    stretch-c e = byte 0 e
-
-    pub stretch-b : start ≡ placeOf first y (blockOf z 1) → getD m (start + i) 0 ≡ getD (codeOf m z y (first + i)) 1 0
-    unfolding codeOf
-    stretch-b e = byte 1 e
-
-    pub stretch-a : start ≡ placeOf first y (blockOf z 2) → getD m (start + i) 0 ≡ getD (codeOf m z y (first + i)) 2 0
-    unfolding codeOf
-    stretch-a e = byte 2 e
-
--- a stretch is in the memory of a board of so many blocks
-pub stretch-fits :
-    (blocks first n y z k start : ℕ) → start ≡ placeOf first y (blockOf z k) → blockOf z k < blocks → y < 32 → first + n ≤ 40 → first % 32 + n ≤ 32
-    → start + n ≤ bytesOf blocks
-stretch-fits blocks first n y z k start e hz hy column side =
-    ⊎-elim
-    (λ l. omega (arith, place-left first y (blockOf z k) l))
-    (λ l.
-    ⊎-elim
-    (λ q. omega (arith, place-service first y (blockOf z k) l q))
-    (λ q. omega (arith, place-right first y (blockOf z k) l q))
-    (eq-or-ne y 0))
-    (lt-or-le first 32)
-
--- a bichrome cell's B
-bichrome : (b : ℕ) → b < 256 → ltb b 192 ≡ not (isQuadrichrome b)
-bichrome = agree-test (λ b. ltb b 192) (λ b. not (isQuadrichrome b)) 256 tt
+-- the code of cell i of a stretch within a row
+pub stretch-code :
+    (first i : ℕ) → first + i < 40 → first % 32 + i < 32 → (m : List ℕ) (y z : ℕ) → codeFrom m z y first i ≡ codeOf m z y (first + i)
+unfolding codeFrom codeOf
+stretch-code first i column side m y z =
+    rw (stretch-place first i column side y (blockOf z 0), stretch-place first i column side y (blockOf z 1), stretch-place first i column side y (blockOf z 2))
 
 -- the tests of a cell, by the bytes that the code reads
 module _ (code : List ℕ) where
-  pub tall-test : (b : ℕ) → b < 256 → b ≡ getD code 1 0 → (ltb b 192 && eqb (b / 2 % 2) 1) ≡ isTall code
-  unfolding isTall
-  tall-test b h e = ap (λ (t : Bool). t && eqb (b / 2 % 2) 1) (bichrome b h) ∙ rw e
-
   pub flash-test : (b a : ℕ) → b < 256 → b ≡ getD code 1 0 → a ≡ getD code 2 0 → (ltb b 192 && eqb (a / 8 % 2) 1) ≡ flashes code
   unfolding flashes
-  flash-test b a h e f = ap (λ (t : Bool). t && eqb (a / 8 % 2) 1) (bichrome b h) ∙ rw (e, f)
+  flash-test b a h e f = ap (λ (t : Bool). t && eqb (a / 8 % 2) 1) (bichrome-test b h) ∙ rw (e, f)
 
   pub blink-test : (a : ℕ) → a ≡ getD code 2 0 → eqb (a / 8 % 2) 1 ≡ blinks code
   unfolding blinks

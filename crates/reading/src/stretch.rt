@@ -6,21 +6,13 @@ ghost use Prim.Native.Nat.{_+_, _%_, _<_, _≤_};
 ghost use lib.ListN.{length};
 ghost use Rattle.basics.specs.Below.{anyBelow};
 ghost use Rattle.address.specs.Boards.{boardBlocks, memoryBytes};
-ghost use Rattle.address.specs.Places.{placeOf, blockOf};
+ghost use Rattle.address.specs.Places.{placeOf};
 ghost use Rattle.page.specs.Codes.{codeOf};
 ghost use Rattle.page.specs.Halves.{isTall};
 ghost use Rattle.page.specs.Inputs.{flashes};
 ghost use Rattle.reading.specs.HowAsked.{codeFrom, blinks, showsCharacter, keyed};
 use crate::key::Keys;
-use address::place::block;
-use address::place::place_at;
-
-// Where byte k of a stretch's cells starts.
-fn start(z: u8, y: u8, first: u16, k: u8) -> usize
-    ensures { λ r. ⌜ r ≡ placeOf first y (blockOf z k) ⌝ }
-{
-    place_at(first, y as u16, block(z, k) as u16)
-}
+use page::stretch::start;
 
 // A cell of double height.
 pub fn some_tall(memory: &[u8], z: u8, y: u8, first: u16, n: usize) -> bool

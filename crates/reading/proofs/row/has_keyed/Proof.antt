@@ -1,6 +1,6 @@
 use mathlib.Core.Path.{sym, _∙_}
 use Rattle.reading.proofs.Rows.{no-character}
-use Rattle.reading.proofs.Tests.{row-stretches}
+use Rattle.page.proofs.Stretches.{row-stretches}
 use borrow.Author.Needs.{needs}
 use Rattle.reading.proofs.row.has_keyed.Statement.{statement}
 use Rattle.reading.proofs.row.has_keyed.Tie as tie

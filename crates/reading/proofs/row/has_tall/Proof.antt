@@ -1,5 +1,5 @@
 use mathlib.Core.Path.{refl, sym, _∙_}
-use Rattle.reading.proofs.Tests.{row-stretches}
+use Rattle.page.proofs.Stretches.{row-stretches}
 use borrow.Author.Needs.{needs}
 use Rattle.reading.proofs.row.has_tall.Statement.{statement}
 use Rattle.reading.proofs.row.has_tall.Tie as tie

@@ -4,9 +4,8 @@ use Prim.Native.Nat.{ℕ, _≤_, _<_, _-_}
 use mathlib.Core.Bool.{false}
 use mathlib.Core.Path.{_≡_, sym, ap, _∙_}
 use native.Mathlib.Omega.{arith}
-use Rattle.basics.proofs.Below.{any-hit}
+use Rattle.basics.proofs.Below.{any-hit, any-never}
 use Rattle.reading.specs.HowAsked.{isUnmarked}
-use Rattle.reading.proofs.Tests.{any-never}
 use borrow.Author.Needs.{needs}
 use Rattle.reading.proofs.store.some_unmarked.Statement.{statement}
 use Rattle.reading.proofs.store.some_unmarked.Tie as tie

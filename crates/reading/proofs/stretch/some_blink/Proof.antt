@@ -6,7 +6,8 @@ use Rattle.basics.specs.Below.{anyBelow}
 use Rattle.page.specs.Codes.{codeOf}
 use Rattle.basics.proofs.Below.{gathered, gathered-end}
 use Rattle.reading.specs.HowAsked.{blinks}
-use Rattle.reading.proofs.Rows.{stretch-fits, stretch-a, blink-test}
+use Rattle.page.proofs.Stretches.{stretch-fits, stretch-a}
+use Rattle.reading.proofs.Rows.{blink-test}
 use borrow.Author.Needs.{needs}
 use Rattle.reading.proofs.stretch.some_blink.Statement.{statement}
 use Rattle.reading.proofs.stretch.some_blink.Tie as tie

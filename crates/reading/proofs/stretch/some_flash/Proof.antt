@@ -6,7 +6,8 @@ use Rattle.basics.specs.Below.{anyBelow}
 use Rattle.page.specs.Codes.{codeOf}
 use Rattle.basics.proofs.Below.{gathered}
 use Rattle.page.specs.Inputs.{flashes}
-use Rattle.reading.proofs.Rows.{stretch-fits, stretch-b, stretch-a, flash-test}
+use Rattle.page.proofs.Stretches.{stretch-fits, stretch-b, stretch-a}
+use Rattle.reading.proofs.Rows.{flash-test}
 use borrow.Author.Needs.{needs}
 use Rattle.reading.proofs.stretch.some_flash.Statement.{statement}
 use Rattle.reading.proofs.stretch.some_flash.Tie as tie

@@ -6,7 +6,8 @@ use Rattle.basics.specs.Below.{anyBelow}
 use Rattle.page.specs.Codes.{codeOf}
 use Rattle.basics.proofs.Below.{gathered, gathered-end}
 use Rattle.reading.specs.HowAsked.{keyed}
-use Rattle.reading.proofs.Rows.{stretch-fits, stretch-c, stretch-b, keyed-test}
+use Rattle.page.proofs.Stretches.{stretch-fits, stretch-c, stretch-b}
+use Rattle.reading.proofs.Rows.{keyed-test}
 use borrow.Author.Needs.{needs}
 use Rattle.reading.proofs.stretch.some_keyed.Statement.{statement}
 use Rattle.reading.proofs.stretch.some_keyed.Tie as tie

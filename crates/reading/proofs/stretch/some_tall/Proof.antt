@@ -6,7 +6,7 @@ use Rattle.basics.specs.Below.{anyBelow}
 use Rattle.page.specs.Codes.{codeOf}
 use Rattle.basics.proofs.Below.{gathered}
 use Rattle.page.specs.Halves.{isTall}
-use Rattle.reading.proofs.Rows.{stretch-fits, stretch-b, tall-test}
+use Rattle.page.proofs.Stretches.{stretch-fits, stretch-b, tall-test}
 use borrow.Author.Needs.{needs}
 use Rattle.reading.proofs.stretch.some_tall.Statement.{statement}
 use Rattle.reading.proofs.stretch.some_tall.Tie as tie
