@@ -28,7 +28,7 @@
 #define BINTURAMIS_VERSION_MAJOR 0u
 #define BINTURAMIS_VERSION_MINOR 3u
 #define BINTURAMIS_VERSION_PATCH 1u
-#define BINTURAMIS_VERSION "0.3.1"
+#define BINTURAMIS_VERSION "0.3.2"
 
 /* The bytes of each thing that is lent. */
 #define BINTURAMIS_PROCESSOR_BYTES 64u
