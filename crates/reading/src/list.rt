@@ -59,7 +59,8 @@ fn group_marks(marks: &mut [bool; 25], memory: &[u8], z: u8, yor: u8, first: u8,
     }
 }
 
-// The rows that the keys fit, by Y: two rows of which neither has the character are left by one look at both.
+// The rows that the keys fit, by Y: two rows of which neither has the character are left by one look at both. The service row, at Y 0, is asked
+// by itself, since no row follows on it.
 fn slice_marks(marks: &mut [bool; 25], memory: &[u8], z: u8, yor: u8, keys: Keys)
     requires { ⌜ (length (now marks) ≡ 25) × (length (now memory) ≡ memoryBytes) × (z < boardBlocks) × (keysHigh keys ≡ true) ⌝ }
     ensures { λ _. ⌜ now (marks .exit) ≡ markedToo (λ r. keyedAt keys (now (memory .entry)) z (rowY yor r)) (now (marks .entry)) ⌝ }
