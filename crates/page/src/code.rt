@@ -13,12 +13,12 @@ use address::place::place_at;
 use address::row::row_y;
 use shown::Shown;
 
-// C, B and A from their places.
-fn code_at(memory: &[u8], c: usize, b: usize, a: usize) -> [u8; 3]
-    requires { ⌜ (length (now memory) ≡ memoryBytes) × (c < memoryBytes) × (b < memoryBytes) × (a < memoryBytes) ⌝ }
-    ensures { λ r. ⌜ r ≡ byteAt (now (memory .entry)) c ∷ byteAt (now (memory .entry)) b ∷ byteAt (now (memory .entry)) a ∷ [] ⌝ }
+// C, B and A at one place of their blocks.
+fn code_at(memory: &[u8], c: usize, b: usize, a: usize, at: usize) -> [u8; 3]
+    requires { ⌜ (length (now memory) ≡ memoryBytes) × (c + at < memoryBytes) × (b + at < memoryBytes) × (a + at < memoryBytes) ⌝ }
+    ensures { λ r. ⌜ r ≡ byteAt (now (memory .entry)) (c + at) ∷ byteAt (now (memory .entry)) (b + at) ∷ byteAt (now (memory .entry)) (a + at) ∷ [] ⌝ }
 {
-    [memory[c], memory[b], memory[a]]
+    [memory[c + at], memory[b + at], memory[a + at]]
 }
 
 // Where a block starts.
@@ -54,7 +54,7 @@ pub fn row_buffer(memory: &[u8], shown: Shown, row: u8) -> [[u8; 3]; 40]
     let mut cells = [[0u8; 3]; 40];
     for x in 0..40 {
         let at = column_at(left, right, x);
-        cells[x] = code_at(memory, c + at, b + at, a + at);
+        cells[x] = code_at(memory, c, b, a, at);
     }
     cells
 }

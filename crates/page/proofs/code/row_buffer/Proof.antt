@@ -59,45 +59,6 @@ column-at-requires c κs = let p2 = c .before .before in
     let low : y .row-y .result < 32 = rw (y .row-y .ensures) (row-small _ _) in
     (start-small 0 _ _ (p1 .place-at .ensures) (omega arith) low, start-small 32 _ _ (p2 .place-at2 .ensures) (omega arith) low, omega arith)
 
-add-code-at : tie.Need-add-code-at Inv-loop μ-loop
-add-code-at c = let p2 = c .before .before .before in
-    let p1 = p2 .before in
-    let b3 = p1 .before in
-    let b2 = b3 .before in
-    let b1 = b2 .before in
-    let y = b1 .before in
-    let f = y .before .before in
-    let fits = byte-fits (y .row-y .result) (p1 .place-at .result) (p2 .place-at2 .result) (c .before .before .loop .x) (c .column-at .result) (p1 .place-at .ensures) (p2 .place-at2 .ensures) (omega arith) (c .column-at .ensures) boardBlocks (f .first-block .result) in
-    let low : y .row-y .result < 32 = rw (y .row-y .ensures) (row-small _ _) in
-    let block : f .first-block .result < boardBlocks = omega (arith, f .first-block .ensures) in
-    omega (arith, fits _ (b1 .block-start .result) (b1 .block-start .ensures) low (omega arith))
-
-add-code-at-2 : tie.Need-add-code-at-2 Inv-loop μ-loop
-add-code-at-2 c = let p2 = c .before .before .before in
-    let p1 = p2 .before in
-    let b3 = p1 .before in
-    let b2 = b3 .before in
-    let b1 = b2 .before in
-    let y = b1 .before in
-    let f = y .before .before in
-    let fits = byte-fits (y .row-y .result) (p1 .place-at .result) (p2 .place-at2 .result) (c .before .before .loop .x) (c .column-at .result) (p1 .place-at .ensures) (p2 .place-at2 .ensures) (omega arith) (c .column-at .ensures) boardBlocks (f .first-block .result) in
-    let low : y .row-y .result < 32 = rw (y .row-y .ensures) (row-small _ _) in
-    let block : f .first-block .result < boardBlocks = omega (arith, f .first-block .ensures) in
-    omega (arith, fits _ (b2 .block-start2 .result) (b2 .block-start2 .ensures) low (omega arith))
-
-add-code-at-3 : tie.Need-add-code-at-3 Inv-loop μ-loop
-add-code-at-3 c = let p2 = c .before .before .before in
-    let p1 = p2 .before in
-    let b3 = p1 .before in
-    let b2 = b3 .before in
-    let b1 = b2 .before in
-    let y = b1 .before in
-    let f = y .before .before in
-    let fits = byte-fits (y .row-y .result) (p1 .place-at .result) (p2 .place-at2 .result) (c .before .before .loop .x) (c .column-at .result) (p1 .place-at .ensures) (p2 .place-at2 .ensures) (omega arith) (c .column-at .ensures) boardBlocks (f .first-block .result) in
-    let low : y .row-y .result < 32 = rw (y .row-y .ensures) (row-small _ _) in
-    let block : f .first-block .result < boardBlocks = omega (arith, f .first-block .ensures) in
-    omega (arith, fits _ (b3 .block-start3 .result) (b3 .block-start3 .ensures) low (omega arith))
-
 code-at-requires : tie.Need-code-at-requires Inv-loop μ-loop
 code-at-requires c κs = let p2 = c .before .before .before in
     let p1 = p2 .before in
@@ -164,9 +125,6 @@ row-buffer-spec =
     place-at-requires-2
     loop-holds
     column-at-requires
-    add-code-at
-    add-code-at-2
-    add-code-at-3
     code-at-requires
     mul-cells
     array-set-from-cells
