@@ -18,7 +18,8 @@ fn stepped(set: bool, byte: u8, step: u8) -> u8
     ((byte as u16 + more as u16) % 256) as u8
 }
 
-// One of the four pairs, by the two lowest bits of a number: that of no bit, or of the right pixel's, with the step for the left pixel's.
+// One of the four pairs, by the two lowest bits of a number: that of no bit, or of the right pixel's, with the step for the left pixel's. So
+// `left` is the step from `none`, and `both` that from `right`.
 fn chosen(by: u8, none: u8, left: u8, right: u8, both: u8) -> u8
     ensures { λ r. ⌜ r ≡ getD (fromSteps (none ∷ left ∷ right ∷ both ∷ [])) (by % 4) 0 ⌝ }
 {
