@@ -16,8 +16,8 @@ use address::place::block_at;
 use address::place::place;
 use address::place::place_at;
 use address::triple::Triple;
-use reading::store::code_marks;
-use reading::store::store_marks;
+use marking::store::code_marks;
+use marking::store::store_marks;
 
 // A store marks by the lists just before it.
 pub fn store(mut p: Processor, memory: &mut [u8], at: Triple, value: u8) -> Processor

@@ -1,12 +1,3 @@
-pub mod Tests
-pub mod Rows
-pub mod Blocks
-pub mod Characters
-pub mod Places
-pub mod Falls
 pub mod Marking
-pub mod Loops
-pub mod Lists
 pub mod Stable
 pub mod Several
-pub mod Changes

@@ -1,26 +1,18 @@
--- Laws of marks: rows that are marked too, once and once more, and one row after the other in any order; and the ends of a phase change.
+-- Laws of marks: rows that are marked too, once and once more, and one row after the other in any order.
 -- Assumes nothing.
 use Prim.Native.Nat.{ℕ, _<_}
 use mathlib.Core.Path.{_≡_, sym, ap, _∙_}
-use mathlib.Core.Bool.{Bool, true, false, _&&_, _||_, or-false, or-assoc}
+use mathlib.Core.Bool.{Bool, false, _&&_, _||_, or-false, or-assoc}
 use mathlib.Core.List.{List}
 use mathlib.Core.Logic.{⊎-elim}
 use lib.Seq.{getD-set-same, getD-set-other, ext-getD}
 use native.Mathlib.Omega.{arith}
 use lib.Dec.{eqb}
-use borrow.Author.Tests.{eq-eqb, ne-eqb, not-false}
+use borrow.Author.Tests.{eq-eqb, ne-eqb}
 use lib.ListN.{length, set, length-set}
-use Rattle.basics.specs.Below.{anyBelow}
-use Rattle.basics.proofs.Choice.{or-left, eq-or-ne}
-use Rattle.basics.proofs.Below.{any-not}
+use Rattle.basics.proofs.Choice.{eq-or-ne}
 use Rattle.basics.proofs.Parts.{length-table, table-at, table-same}
-use Rattle.shown.specs.declared.Shown.{Shown}
-use Rattle.shown.specs.Origins.{yorOf, firstBlock}
-use Rattle.shown.specs.Refusals.{canDraw}
-use Rattle.address.specs.Rows.{rowY}
 use Rattle.page.specs.Marks.{isMarked, markedToo}
-use Rattle.reading.specs.Marks.{flashIn, phaseMarks}
-use Rattle.reading.specs.HowAsked.{isUnmarked, flashAt}
 
 module _ (f : ℕ → Bool) (marks : List Bool) where
   pub marked-long : length (markedToo f marks) ≡ 25
@@ -34,14 +26,9 @@ module _ (f : ℕ → Bool) (marks : List Bool) where
   pub marked-all : (after : List Bool) → length after ≡ 25 → ((i : ℕ) → i < 25 → isMarked after i ≡ (isMarked marks i || f i)) → after ≡ markedToo f marks
   marked-all after h e = ext-getD false after (markedToo f marks) (h ∙ sym marked-long) (λ i l. e i (omega arith) ∙ sym (marked-is i (omega arith)))
 
-  -- none passes; all are marked already
+  -- none passes
   pub marked-none : length marks ≡ 25 → ((i : ℕ) → i < 25 → f i ≡ false) → marks ≡ markedToo f marks
   marked-none h e = marked-all marks h (λ i l. sym (ap (λ (t : Bool). isMarked marks i || t) (e i l) ∙ or-false (isMarked marks i)))
-
-  pub marked-before : length marks ≡ 25 → anyBelow (isUnmarked marks) 25 ≡ false → marks ≡ markedToo f marks
-  marked-before h e =
-      marked-all marks h
-      (λ i l. let m = not-false (isMarked marks i) (any-not (isUnmarked marks) 25 i e l) in m ∙ sym (or-left (isMarked marks i) (f i) m))
 
   -- two tests that agree
   pub marked-same : (g : ℕ → Bool) → ((i : ℕ) → i < 25 → f i ≡ g i) → markedToo f marks ≡ markedToo g marks
@@ -99,20 +86,3 @@ module _ (f : ℕ → Bool) (marks : List Bool) where
 pub marked-again :
     (f g : ℕ → Bool) (marks between : List Bool) → between ≡ markedToo f marks → ((i : ℕ) → i < 25 → (f i || g i) ≡ g i) → markedToo g between ≡ markedToo g marks
 marked-again f g marks between d e = ap (markedToo g) d ∙ marked-twice f marks g g e
-
--- a phase change, by the block and the origin that the code has
-pub flash-made :
-    (shown : Shown) (m : List ℕ) (z yor : ℕ) (marks after : List Bool) → z ≡ firstBlock shown → yor ≡ yorOf shown
-    → after ≡ markedToo (λ r. flashAt m z (rowY yor r)) marks → after ≡ markedToo (flashIn shown m) marks
-unfolding flashIn
-flash-made shown m z yor marks after ez eo e = e ∙ marked-same _ marks _ (λ i l. rw (ez, eo))
-
--- the two ends of a phase change
-module _ (shown : Shown) (drawn : Bool) (learnt : drawn ≡ canDraw shown) where
-  pub phase-refused : (m : List ℕ) (marks : List Bool) → drawn ≡ false → marks ≡ phaseMarks shown m marks
-  unfolding phaseMarks
-  phase-refused m marks e = rw (sym learnt ∙ e)
-
-  pub phase-asked : (m : List ℕ) (marks after : List Bool) → drawn ≡ true → after ≡ markedToo (flashIn shown m) marks → after ≡ phaseMarks shown m marks
-  unfolding phaseMarks
-  phase-asked m marks after e q = rw (sym learnt ∙ e) q

@@ -1,4 +1,3 @@
 pub mod Lists
 pub mod Marks
 pub mod Agreeing
-pub mod HowAsked

@@ -1,8 +1,1 @@
-// What a store and a phase change mark: the reading list, asked the other way round.
-pub mod key;
-pub mod list;
-pub mod own;
-pub mod phase;
-pub mod row;
-pub mod store;
-pub mod stretch;
+// The reading list of a row, what a store and a phase change mark by it, and the laws of both. No code.

@@ -1,0 +1,229 @@
+-- Laws of a stretch of cells: its bytes stand side by side, and the tests of its bytes are those of its cells.
+-- Assumes nothing.
+use Prim.Native.Nat.{ℕ, _+_, _/_, _%_, _≤_, _<_}
+use mathlib.Core.Path.{_≡_, refl, sym, ap, ap₂, _∙_}
+use mathlib.Core.Bool.{Bool, true, false, not, _&&_, _||_, false≢true, and-false, or-assoc}
+use mathlib.Core.List.{List}
+use mathlib.Core.Logic.{⊎-elim}
+use native.Mathlib.Omega.{arith}
+use lib.Dec.{ltb, leb, eqb}
+use lib.ListN.{getD}
+use borrow.Author.Tests.{ne-eqb, eqb-true, leb-true, le-leb, not-false}
+use Rattle.basics.specs.Below.{anyBelow}
+use Rattle.basics.proofs.Below.{any-not, any-same, any-never, any-split}
+use Rattle.basics.proofs.Choice.{bool-cases, lt-or-le, eq-or-ne, and-left, and-right, and-both, or-cases, or-none, or-neither}
+use Rattle.address.specs.Boards.{bytesOf}
+use Rattle.address.specs.Places.{placeOf, blockOf}
+use Rattle.address.proofs.Laws.{place-left, place-service, place-right}
+use Rattle.address.proofs.Places.{place-within}
+use Rattle.cell.specs.Cells.{isQuadrichrome}
+use Rattle.page.specs.Codes.{codeOf}
+use Rattle.page.specs.Inputs.{flashes}
+use Rattle.asking.specs.declared.key.Keys.{Keys}
+use Rattle.asking.specs.HowAsked.{keysHigh, isSource, showsCharacter, fromBlock, keyed, blinks, codeFrom, characterAt, keyedAt}
+use Rattle.page.proofs.Stretches.{stretch-place, bichrome-test, row-stretches}
+use Rattle.asking.proofs.Tests.{or-swap}
+
+-- the code of cell i of a stretch within a row
+pub stretch-code :
+    (first i : ℕ) → first + i < 40 → first % 32 + i < 32 → (m : List ℕ) (y z : ℕ) → codeFrom m z y first i ≡ codeOf m z y (first + i)
+unfolding codeFrom codeOf
+stretch-code first i column side m y z =
+    rw (stretch-place first i column side y (blockOf z 0), stretch-place first i column side y (blockOf z 1), stretch-place first i column side y (blockOf z 2))
+
+-- the tests of a cell, by the bytes that the code reads
+module _ (code : List ℕ) where
+  pub flash-test : (b a : ℕ) → b < 256 → b ≡ getD code 1 0 → a ≡ getD code 2 0 → (ltb b 192 && eqb (a / 8 % 2) 1) ≡ flashes code
+  unfolding flashes
+  flash-test b a h e f = ap (λ (t : Bool). t && eqb (a / 8 % 2) 1) (bichrome-test b h) ∙ rw (e, f)
+
+  pub blink-test : (a : ℕ) → a ≡ getD code 2 0 → eqb (a / 8 % 2) 1 ≡ blinks code
+  unfolding blinks
+  blink-test a e = rw e
+
+  pub character-test : (c b t : ℕ) → c ≡ getD code 0 0 → b ≡ getD code 1 0 → (eqb (c % 128) t && leb 128 b) ≡ showsCharacter t code
+  unfolding showsCharacter
+  character-test c b t e f = rw (e, f)
+
+  pub keyed-test :
+      (c b : ℕ) (keys : Keys) → c ≡ getD code 0 0 → b ≡ getD code 1 0
+      → (eqb (c % 128) (keys .character)
+      && ((eqb (b / 32) (keys .user0) || (eqb (b / 16) (keys .user10) || eqb (b / 16) (keys .user11)))
+      || (eqb (b / 8) (keys .quad0) || (eqb (b / 8) (keys .quad1) || eqb (b / 8) (keys .quad2)))))
+      ≡ keyed keys code
+  unfolding fromBlock keyed
+  keyed-test c b keys e f = rw (e, f)
+
+  -- a cell that does not blink does not flash
+  pub still-test : blinks code ≡ false → flashes code ≡ false
+  unfolding blinks flashes
+  still-test e = ap (λ (t : Bool). not (isQuadrichrome (getD code 1 0)) && t) e ∙ and-false (not (isQuadrichrome (getD code 1 0)))
+
+-- the bytes of a stretch that may go over two rows
+module _ (m : List ℕ) (z y first i start : ℕ) where
+  pub from-c : start ≡ placeOf first y (blockOf z 0) → getD m (start + i) 0 ≡ getD (codeFrom m z y first i) 0 0
+  unfolding codeFrom
+  from-c e = rw e
+
+  pub from-b : start ≡ placeOf first y (blockOf z 1) → getD m (start + i) 0 ≡ getD (codeFrom m z y first i) 1 0
+  unfolding codeFrom
+  from-b e = rw e
+
+pub from-fits : (blocks first n y z k start : ℕ) → start ≡ placeOf first y (blockOf z k) → blockOf z k < blocks → placeOf first y 0 + n ≤ 1024 → start + n ≤ bytesOf blocks
+from-fits blocks first n y z k start e hz h = omega (arith, place-within first y (blockOf z k))
+
+-- a row has its two stretches in a block
+pub left-fits : (y : ℕ) → y < 32 → placeOf 0 y 0 + 32 ≤ 1024
+left-fits y h = omega (arith, place-left 0 y 0 (omega arith))
+
+pub right-fits : (y : ℕ) → y < 32 → placeOf 32 y 0 + 8 ≤ 1024
+right-fits y h =
+    ⊎-elim (λ q. omega (arith, place-service 32 y 0 (omega arith) q)) (λ q. omega (arith, place-right 32 y 0 (omega arith) q)) (eq-or-ne y 0)
+
+-- and so have two rows that follow on
+module _ (y : ℕ) (low : 8 ≤ y) (high : y < 31) where
+  pub lefts-fit : placeOf 0 y 0 + 64 ≤ 1024
+  lefts-fit = omega (arith, place-left 0 y 0 (omega arith))
+
+  pub rights-fit : placeOf 32 y 0 + 16 ≤ 1024
+  rights-fit = omega (arith, place-right 32 y 0 (omega arith) (λ e. omega arith))
+
+-- the row with the next Y follows on
+module _ (m : List ℕ) (z y : ℕ) (g : List ℕ → Bool) where
+  pub one-row :
+      (left right : Bool) → left ≡ anyBelow (λ i. g (codeFrom m z y 0 i)) 32 → right ≡ anyBelow (λ i. g (codeFrom m z y 32 i)) 8
+      → (left || right) ≡ anyBelow (λ x. g (codeOf m z y x)) 40
+  one-row left right p q =
+      row-stretches (λ x. g (codeOf m z y x)) left right
+      (p ∙ any-same _ _ 32 (λ i l. ap g (stretch-code 0 i (omega arith) (omega arith) m y z)))
+      (q ∙ any-same _ _ 8 (λ i l. ap g (stretch-code 32 i (omega arith) (omega arith) m y z)))
+
+  next-left : (i : ℕ) → i < 32 → codeFrom m z y 0 (32 + i) ≡ codeOf m z (y + 1) (0 + i)
+  unfolding codeFrom codeOf
+  next-left i l = rw (same (blockOf z 0), same (blockOf z 1), same (blockOf z 2))
+    where
+      same : (b : ℕ) → placeOf 0 y b + (32 + i) ≡ placeOf (0 + i) (y + 1) b
+      same b = omega (arith, place-left 0 y b (omega arith), place-left (0 + i) (y + 1) b (omega arith))
+
+  next-right : (i : ℕ) → i < 8 → 8 ≤ y → codeFrom m z y 32 (8 + i) ≡ codeOf m z (y + 1) (32 + i)
+  unfolding codeFrom codeOf
+  next-right i l h = rw (same (blockOf z 0), same (blockOf z 1), same (blockOf z 2))
+    where
+      same : (b : ℕ) → placeOf 32 y b + (8 + i) ≡ placeOf (32 + i) (y + 1) b
+      same b = omega (arith, place-right 32 y b (omega arith) (λ e. omega arith), place-right (32 + i) (y + 1) b (omega arith) (λ e. omega arith))
+
+  pub two-rows :
+      (left right : Bool) → 8 ≤ y → left ≡ anyBelow (λ i. g (codeFrom m z y 0 i)) 64 → right ≡ anyBelow (λ i. g (codeFrom m z y 32 i)) 16
+      → (left || right) ≡ (anyBelow (λ x. g (codeOf m z y x)) 40 || anyBelow (λ x. g (codeOf m z (y + 1) x)) 40)
+  two-rows left right h p q =
+      ap₂ _||_ (p ∙ any-split (λ i. g (codeFrom m z y 0 i)) 32 32) (q ∙ any-split (λ i. g (codeFrom m z y 32 i)) 8 8)
+      ∙ or-swap
+      (anyBelow (λ i. g (codeFrom m z y 0 i)) 32) (anyBelow (λ i. g (codeFrom m z y 0 (32 + i))) 32)
+      (anyBelow (λ i. g (codeFrom m z y 32 i)) 8) (anyBelow (λ i. g (codeFrom m z y 32 (8 + i))) 8)
+      ∙ ap₂ _||_ (one-row _ _ refl refl)
+      (row-stretches (λ x. g (codeOf m z (y + 1) x)) _ _
+      (any-same _ _ 32 (λ i l. ap g (next-left i l)))
+      (any-same _ _ 8 (λ i l. ap g (next-right i l h))))
+
+-- the three stretches of a row in which flashing is asked
+pub three-stretches :
+    (f : ℕ → Bool) (first second third : Bool)
+    → first ≡ anyBelow (λ i. f (0 + i)) 16 → second ≡ anyBelow (λ i. f (16 + i)) 16 → third ≡ anyBelow (λ i. f (32 + i)) 8
+    → (first || (second || third)) ≡ anyBelow f 40
+three-stretches f first second third p q r =
+    sym (or-assoc first second third)
+    ∙ row-stretches f (first || second) third
+    (ap₂ _||_ (p ∙ any-same _ _ 16 (λ i l. ap f (omega arith))) q ∙ sym (any-split f 16 16) ∙ any-same f (λ i. f (0 + i)) 32 (λ i l. ap f (omega arith)))
+    r
+
+-- where nothing blinks nothing flashes
+pub no-blink : (code : ℕ → List ℕ) (n : ℕ) → anyBelow (λ x. blinks (code x)) n ≡ false → anyBelow (λ x. flashes (code x)) n ≡ false
+no-blink code n e = any-never _ n (λ x l. still-test (code x) (any-not (λ i. blinks (code i)) n x e l))
+
+-- where the keys need not be asked
+module _ (keys : Keys) (high : keysHigh keys ≡ true) where
+  user-high : (leb 4 (keys .user0) && (leb 8 (keys .user10) && leb 8 (keys .user11))) ≡ true
+  unfolding keysHigh
+  user-high = and-left _ _ high
+
+  quad-high : (leb 16 (keys .quad0) && (leb 16 (keys .quad1) && leb 16 (keys .quad2))) ≡ true
+  unfolding keysHigh
+  quad-high = and-right (leb 4 (keys .user0) && (leb 8 (keys .user10) && leb 8 (keys .user11))) _ high
+
+  -- a B that a key fits is not that of a cell from the ROM
+  from-high : (code : List ℕ) → fromBlock keys code ≡ true → 128 ≤ getD code 1 0
+  unfolding fromBlock
+  from-high code e =
+      let b = getD code 1 0 in
+      let u = leb-true 4 (keys .user0) (and-left _ _ user-high) in
+      let us = and-right (leb 4 (keys .user0)) _ user-high in
+      let v = leb-true 8 (keys .user10) (and-left _ _ us) in
+      let w = leb-true 8 (keys .user11) (and-right (leb 8 (keys .user10)) _ us) in
+      let p = leb-true 16 (keys .quad0) (and-left _ _ quad-high) in
+      let qs = and-right (leb 16 (keys .quad0)) _ quad-high in
+      let q = leb-true 16 (keys .quad1) (and-left _ _ qs) in
+      let r = leb-true 16 (keys .quad2) (and-right (leb 16 (keys .quad1)) _ qs) in
+      ⊎-elim
+      (λ t.
+      ⊎-elim (λ a. omega (arith, eqb-true (b / 32) (keys .user0) a))
+      (λ a.
+      ⊎-elim (λ k. omega (arith, eqb-true (b / 16) (keys .user10) k)) (λ k. omega (arith, eqb-true (b / 16) (keys .user11) k))
+      (or-cases (eqb (b / 16) (keys .user10)) _ a))
+      (or-cases (eqb (b / 32) (keys .user0)) _ t))
+      (λ t.
+      ⊎-elim (λ a. omega (arith, eqb-true (b / 8) (keys .quad0) a))
+      (λ a.
+      ⊎-elim (λ k. omega (arith, eqb-true (b / 8) (keys .quad1) k)) (λ k. omega (arith, eqb-true (b / 8) (keys .quad2) k))
+      (or-cases (eqb (b / 8) (keys .quad1)) _ a))
+      (or-cases (eqb (b / 8) (keys .quad0)) _ t))
+      (or-cases (eqb (b / 32) (keys .user0) || (eqb (b / 16) (keys .user10) || eqb (b / 16) (keys .user11))) _ e)
+
+  keyed-shows : (code : List ℕ) → keyed keys code ≡ true → showsCharacter (keys .character) code ≡ true
+  unfolding keyed showsCharacter
+  keyed-shows code e =
+      let t = eqb (getD code 0 0 % 128) (keys .character) in
+      and-both _ _ (and-left t _ e) (le-leb 128 (getD code 1 0) (from-high code (and-right t _ e)))
+
+  pub no-character : (code : ℕ → List ℕ) (n : ℕ) → anyBelow (λ x. showsCharacter (keys .character) (code x)) n ≡ false → false ≡ anyBelow (λ x. keyed keys (code x)) n
+  no-character code n e = sym (any-never (λ x. keyed keys (code x)) n (λ x l. unkeyed (code x) (any-not (λ i. showsCharacter (keys .character) (code i)) n x e l)))
+    where
+      unkeyed : (one : List ℕ) → showsCharacter (keys .character) one ≡ false → keyed keys one ≡ false
+      unkeyed one off = ⊎-elim (λ t. absurd (false≢true (sym off ∙ keyed-shows one t))) (λ t. t) (bool-cases (keyed keys one))
+
+  -- two rows at once
+  pub neither :
+      (m : List ℕ) (z y : ℕ) (t : Bool) → t ≡ (characterAt m z y (keys .character) || characterAt m z (y + 1) (keys .character)) → t ≡ false
+      → (keyedAt keys m z y ≡ false) × (keyedAt keys m z (y + 1) ≡ false)
+  neither m z y t e off =
+      let none = sym e ∙ off in (
+        sym (no-character (codeOf m z y) 40 (or-neither _ _ none)),
+        sym (no-character (codeOf m z (y + 1)) 40 (or-none (characterAt m z y (keys .character)) _ none)),
+      )
+
+-- no part of a byte is 255
+module _ (keys : Keys) (code : List ℕ) (none : isSource keys ≡ false) (small : getD code 1 0 < 256) where
+  unmet : (v key : ℕ) → v < 255 → not (eqb key 255) ≡ false → eqb v key ≡ false
+  unmet v key l e = ne-eqb v key (λ q. omega (arith, eqb-true key 255 (not-false _ e)))
+
+  sourceless : keyed keys code ≡ false
+  unfolding keyed fromBlock isSource
+  sourceless =
+      let b = getD code 1 0 in
+      let n1 = or-none (not (eqb (keys .user0) 255)) _ none in
+      let n2 = or-none (not (eqb (keys .user10) 255)) _ n1 in
+      let n3 = or-none (not (eqb (keys .user11) 255)) _ n2 in
+      let n4 = or-none (not (eqb (keys .quad0) 255)) _ n3 in
+      ap (λ (t : Bool). eqb (getD code 0 0 % 128) (keys .character) && t)
+      (ap₂ _||_
+      (ap₂ _||_ (unmet (b / 32) (keys .user0) (omega arith) (or-neither _ _ none))
+      (ap₂ _||_ (unmet (b / 16) (keys .user10) (omega arith) (or-neither _ _ n1)) (unmet (b / 16) (keys .user11) (omega arith) (or-neither _ _ n2))))
+      (ap₂ _||_ (unmet (b / 8) (keys .quad0) (omega arith) (or-neither _ _ n3))
+      (ap₂ _||_ (unmet (b / 8) (keys .quad1) (omega arith) (or-neither _ _ n4))
+      (unmet (b / 8) (keys .quad2) (omega arith) (or-none (not (eqb (keys .quad1) 255)) _ n4)))))
+      ∙ and-false (eqb (getD code 0 0 % 128) (keys .character))
+
+pub no-source :
+    (keys : Keys) (n : ℕ) → isSource keys ≡ false → (m : List ℕ) (z y : ℕ) → ((k : ℕ) → getD m k 0 < 256)
+    → anyBelow (λ x. keyed keys (codeOf m z y x)) n ≡ false
+unfolding codeOf
+no-source keys n none m z y bytes = any-never _ n (λ x l. sourceless keys (codeOf m z y x) none (bytes (placeOf x y (blockOf z 1))))

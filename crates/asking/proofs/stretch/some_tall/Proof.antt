@@ -1,0 +1,64 @@
+use Rattle.address.specs.Boards.{boardBlocks, memoryBytes}
+use Prim.Native.Nat.{_+_, _≤_, _-_}
+use mathlib.Core.Path.{_≡_, refl, ap, _∙_}
+use native.Mathlib.Omega.{arith}
+use Rattle.basics.specs.Below.{anyBelow}
+use Rattle.page.specs.Codes.{codeOf}
+use Rattle.basics.proofs.Below.{gathered}
+use Rattle.page.specs.Halves.{isTall}
+use Rattle.page.proofs.Stretches.{stretch-fits, stretch-b, tall-test}
+use borrow.Author.Needs.{needs}
+use Rattle.asking.proofs.stretch.some_tall.Statement.{statement}
+use Rattle.asking.proofs.stretch.some_tall.Tie as tie
+
+abbrev Inv-loop : tie.InvT-loop
+Inv-loop memory z y first n b found₀ i₀ found i = (i ≤ n) × (b + n ≤ memoryBytes) × (found ≡ anyBelow (λ j. isTall (codeOf memory z y (first + j))) i)
+
+abbrev μ-loop : tie.MeasureT-loop
+μ-loop memory z y first n b found₀ i₀ found i = n - i
+
+start-requires : tie.Need-start-requires Inv-loop μ-loop
+start-requires c κs = search needs
+
+loop-holds : tie.Need-loop-holds Inv-loop μ-loop
+unfolding anyBelow
+loop-holds c = let p = c .before .before .pre in
+    (omega arith, stretch-fits boardBlocks _ _ _ _ 1 _ (c .start .ensures) (omega arith) (p .2) (p .3) (p .4), refl)
+
+add-byte : tie.Need-add-byte Inv-loop μ-loop
+add-byte c = search needs
+
+shared-slice-read-byte : tie.Need-shared-slice-read-byte Inv-loop μ-loop
+shared-slice-read-byte c = search needs
+
+add-i : tie.Need-add-i Inv-loop μ-loop
+add-i c = search needs
+
+loop-less : tie.Need-loop-less Inv-loop μ-loop
+loop-less c = omega arith
+
+loop-again : tie.Need-loop-again Inv-loop μ-loop
+loop-again c = let a = c .before .before in
+    let l = a .loop in
+    let s = a .before .before .before .args in
+    (omega arith, l .inv .1, gathered _ _ _ _ (l .inv .2) (tall-test _ _ (omega (arith, c .shared-slice-known2 .given (a .before .start .result + l .i))) (stretch-b (s .first) (l .i) (omega arith) (omega arith) _ _ _ _ (a .before .start .ensures))))
+
+returns : tie.Need-returns Inv-loop μ-loop
+returns c = let l = c .before .loop in
+    let e : l .i ≡ c .before .before .before .before .args .n = omega arith in
+    l .inv .2 ∙ ap (anyBelow _) e
+
+pub some-tall-spec : {M : Type 1} → statement M
+some-tall-spec =
+    tie.close
+    (tie.spec
+    Inv-loop
+    μ-loop
+    start-requires
+    loop-holds
+    add-byte
+    shared-slice-read-byte
+    add-i
+    loop-less
+    loop-again
+    returns)

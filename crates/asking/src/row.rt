@@ -1,0 +1,85 @@
+// Questions about a row of the page at Y, whose first block is Z: each is asked of the row's two stretches.
+ghost use mathlib.Core.Path.{_≡_};
+ghost use mathlib.Core.Bool.{true, _||_};
+ghost use Prim.Native.Nat.{_+_, _≤_, _<_};
+ghost use lib.ListN.{length};
+ghost use Rattle.address.specs.Boards.{boardBlocks, memoryBytes};
+ghost use Rattle.asking.specs.HowAsked.{tallAt, flashAt, characterAt, keyedAt, keysHigh};
+use crate::key::Keys;
+use crate::stretch::some_blink;
+use crate::stretch::some_character;
+use crate::stretch::some_flash;
+use crate::stretch::some_keyed;
+use crate::stretch::some_tall;
+
+pub fn has_tall(memory: &[u8], z: u8, y: u8) -> bool
+    requires { ⌜ (length (now memory) ≡ memoryBytes) × (z < boardBlocks) × (y < 32) ⌝ }
+    ensures { λ r. ⌜ r ≡ tallAt (now (memory .entry)) z y ⌝ }
+{
+    if some_tall(memory, z, y, 0, 32) {
+        return true;
+    }
+    some_tall(memory, z, y, 32, 8)
+}
+
+// Where a row flashes, a cell on its left does most often. Of the rest A3 is asked first: it is most often clear in all.
+fn has_flash(memory: &[u8], z: u8, y: u8) -> bool
+    requires { ⌜ (length (now memory) ≡ memoryBytes) × (z < boardBlocks) × (y < 32) ⌝ }
+    ensures { λ r. ⌜ r ≡ flashAt (now (memory .entry)) z y ⌝ }
+{
+    if some_flash(memory, z, y, 0, 16) {
+        return true;
+    }
+    if some_blink(memory, z, y, 16, 16) | some_blink(memory, z, y, 32, 8) {
+        return some_flash(memory, z, y, 16, 16) | some_flash(memory, z, y, 32, 8);
+    }
+    false
+}
+
+fn has_character(memory: &[u8], z: u8, y: u8, t: u8) -> bool
+    requires { ⌜ (length (now memory) ≡ memoryBytes) × (z < boardBlocks) × (y < 32) ⌝ }
+    ensures { λ r. ⌜ r ≡ characterAt (now (memory .entry)) z y t ⌝ }
+{
+    some_character(memory, z, y, 0, 32, t) | some_character(memory, z, y, 32, 8, t)
+}
+
+// The rows with this Y and the next, at once: their bytes stand side by side.
+pub fn near_has(memory: &[u8], z: u8, y: u8, t: u8) -> bool
+    requires { ⌜ (length (now memory) ≡ memoryBytes) × (z < boardBlocks) × (8 ≤ y) × (y < 31) ⌝ }
+    ensures { λ r. ⌜ r ≡ (characterAt (now (memory .entry)) z y t || characterAt (now (memory .entry)) z (y + 1) t) ⌝ }
+{
+    some_character(memory, z, y, 0, 64, t) | some_character(memory, z, y, 32, 16, t)
+}
+
+// Most rows do not have the character at all: that is asked before the parts of B.
+fn has_keyed(memory: &[u8], z: u8, y: u8, keys: Keys) -> bool
+    requires { ⌜ (length (now memory) ≡ memoryBytes) × (z < boardBlocks) × (y < 32) × (keysHigh keys ≡ true) ⌝ }
+    ensures { λ r. ⌜ r ≡ keyedAt keys (now (memory .entry)) z y ⌝ }
+{
+    if has_character(memory, z, y, keys.character) {
+        return some_keyed(memory, z, y, 0, 32, keys) | some_keyed(memory, z, y, 32, 8, keys);
+    }
+    false
+}
+
+// The row is marked, or it flashes.
+pub fn is_marked_or_flashes(memory: &[u8], z: u8, y: u8, marked: bool) -> bool
+    requires { ⌜ (length (now memory) ≡ memoryBytes) × (z < boardBlocks) × (y < 32) ⌝ }
+    ensures { λ r. ⌜ r ≡ (marked || flashAt (now (memory .entry)) z y) ⌝ }
+{
+    if marked {
+        return true;
+    }
+    has_flash(memory, z, y)
+}
+
+// The row is marked, or the keys fit a cell of it.
+pub fn is_marked_or_keyed(memory: &[u8], z: u8, y: u8, keys: Keys, marked: bool) -> bool
+    requires { ⌜ (length (now memory) ≡ memoryBytes) × (z < boardBlocks) × (y < 32) × (keysHigh keys ≡ true) ⌝ }
+    ensures { λ r. ⌜ r ≡ (marked || keyedAt keys (now (memory .entry)) z y) ⌝ }
+{
+    if marked {
+        return true;
+    }
+    has_keyed(memory, z, y, keys)
+}

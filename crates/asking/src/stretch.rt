@@ -1,0 +1,88 @@
+// Questions about a stretch of cells whose bytes stand side by side in each block of the page: columns 0 to 31 of a row, and 32 to 39;
+// from Y 8 on the row with the next Y follows on, so that a stretch can go over two rows.
+// Each loop gathers and goes to its end, so that it can be compiled to ask many bytes at once.
+ghost use mathlib.Core.Path.{_≡_};
+ghost use Prim.Native.Nat.{_+_, _%_, _<_, _≤_};
+ghost use lib.ListN.{length};
+ghost use Rattle.basics.specs.Below.{anyBelow};
+ghost use Rattle.address.specs.Boards.{boardBlocks, memoryBytes};
+ghost use Rattle.address.specs.Places.{placeOf};
+ghost use Rattle.page.specs.Codes.{codeOf};
+ghost use Rattle.page.specs.Halves.{isTall};
+ghost use Rattle.page.specs.Inputs.{flashes};
+ghost use Rattle.asking.specs.HowAsked.{codeFrom, blinks, showsCharacter, keyed};
+use crate::key::Keys;
+use page::stretch::start;
+
+// A cell of double height.
+pub fn some_tall(memory: &[u8], z: u8, y: u8, first: u16, n: usize) -> bool
+    requires { ⌜ (length (now memory) ≡ memoryBytes) × (z < boardBlocks) × (y < 32) × (first + n ≤ 40) × (first % 32 + n ≤ 32) ⌝ }
+    ensures { λ r. ⌜ r ≡ anyBelow (λ i. isTall (codeOf (now (memory .entry)) z y (first + i))) n ⌝ }
+{
+    let b = start(z, y, first, 1);
+    let mut found = false;
+    for i in 0..n {
+        let byte = memory[b + i];
+        found = found | ((byte < 192) & (byte / 2 % 2 == 1));
+    }
+    found
+}
+
+// A cell that flashes.
+pub fn some_flash(memory: &[u8], z: u8, y: u8, first: u16, n: usize) -> bool
+    requires { ⌜ (length (now memory) ≡ memoryBytes) × (z < boardBlocks) × (y < 32) × (first + n ≤ 40) × (first % 32 + n ≤ 32) ⌝ }
+    ensures { λ r. ⌜ r ≡ anyBelow (λ i. flashes (codeOf (now (memory .entry)) z y (first + i))) n ⌝ }
+{
+    let b = start(z, y, first, 1);
+    let a = start(z, y, first, 2);
+    let mut found = false;
+    for i in 0..n {
+        found = found | ((memory[b + i] < 192) & (memory[a + i] / 8 % 2 == 1));
+    }
+    found
+}
+
+// A cell whose A3 is set, whatever its B is: half the bytes of the question whether one flashes.
+pub fn some_blink(memory: &[u8], z: u8, y: u8, first: u16, n: usize) -> bool
+    requires { ⌜ (length (now memory) ≡ memoryBytes) × (z < boardBlocks) × (y < 32) × (first + n ≤ 40) × (first % 32 + n ≤ 32) ⌝ }
+    ensures { λ r. ⌜ r ≡ anyBelow (λ i. blinks (codeOf (now (memory .entry)) z y (first + i))) n ⌝ }
+{
+    let a = start(z, y, first, 2);
+    let mut found = false;
+    for i in 0..n {
+        found = found | (memory[a + i] / 8 % 2 == 1);
+    }
+    found
+}
+
+// A cell whose C is the character, and whose B is not that of a cell from the ROM. The stretch may go over two rows.
+pub fn some_character(memory: &[u8], z: u8, y: u8, first: u16, n: usize, t: u8) -> bool
+    requires { ⌜ (length (now memory) ≡ memoryBytes) × (z < boardBlocks) × (placeOf first y 0 + n ≤ 1024) ⌝ }
+    ensures { λ r. ⌜ r ≡ anyBelow (λ i. showsCharacter t (codeFrom (now (memory .entry)) z y first i)) n ⌝ }
+{
+    let c = start(z, y, first, 0);
+    let b = start(z, y, first, 1);
+    let mut found = false;
+    for i in 0..n {
+        found = found | ((memory[c + i] % 128 == t) & (memory[b + i] >= 128));
+    }
+    found
+}
+
+// A cell that the keys fit.
+pub fn some_keyed(memory: &[u8], z: u8, y: u8, first: u16, n: usize, keys: Keys) -> bool
+    requires { ⌜ (length (now memory) ≡ memoryBytes) × (z < boardBlocks) × (y < 32) × (first + n ≤ 40) × (first % 32 + n ≤ 32) ⌝ }
+    ensures { λ r. ⌜ r ≡ anyBelow (λ i. keyed keys (codeOf (now (memory .entry)) z y (first + i))) n ⌝ }
+{
+    let c = start(z, y, first, 0);
+    let b = start(z, y, first, 1);
+    let mut found = false;
+    for i in 0..n {
+        let byte = memory[b + i];
+        let user = (byte / 32 == keys.user0)
+            | ((byte / 16 == keys.user10) | (byte / 16 == keys.user11));
+        let quad = (byte / 8 == keys.quad0) | ((byte / 8 == keys.quad1) | (byte / 8 == keys.quad2));
+        found = found | ((memory[c + i] % 128 == keys.character) & (user | quad));
+    }
+    found
+}

@@ -1,0 +1,5 @@
+pub mod Ends
+pub mod Falls
+pub mod Loops
+pub mod Lists
+pub mod Changes

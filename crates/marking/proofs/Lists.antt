@@ -1,0 +1,133 @@
+-- What the code asks of a row is what its list holds: a byte of the row's own or of a row above that it reaches, and a byte that one of
+-- its cells has as a slice.
+-- Assumes nothing.
+use Prim.Native.Nat.{ℕ, zero, suc, _<_}
+use mathlib.Core.Path.{_≡_, refl, sym, ap, ap₂, _∙_}
+use mathlib.Core.Bool.{Bool, true, false, _&&_, _||_, and-false, or-false}
+use mathlib.Core.List.{List}
+use native.Mathlib.Omega.{arith}
+use lib.Dec.{eqb}
+use lib.ListN.{length, getD}
+use Rattle.basics.proofs.Below.{any-same}
+use Rattle.address.specs.Triples.{onPage}
+use Rattle.address.specs.Places.{placeOf, blockOf}
+use Rattle.address.specs.Rows.{rowY}
+use Rattle.address.proofs.Laws.{facts-y, page-row}
+use Rattle.shown.specs.declared.Shown.{Shown}
+use Rattle.shown.specs.Origins.{yorOf, firstBlock}
+use Rattle.page.specs.Codes.{codeOf, codeAt}
+use Rattle.page.specs.Marks.{markedToo}
+use Rattle.asking.specs.declared.key.Keys.{Keys}
+use Rattle.reading.specs.Lists.{rowHolds, cellHolds, slicesHold, hasTall, aboveHolds, onList}
+use Rattle.asking.specs.HowAsked.{someBlock, keysOf, isSource, tallAt, keyedAt, rowAt, codeBlock, someCodeBlock}
+use Rattle.marking.specs.HowMarked.{fallsTo, someOnList}
+use Rattle.asking.proofs.Blocks.{some-same, some-each, some-none, some-or, some-any}
+use Rattle.asking.proofs.Rows.{no-source}
+use Rattle.asking.proofs.Characters.{keyed-cell}
+use Rattle.asking.proofs.Places.{no-code-block, own-bytes, row-at}
+use Rattle.reading.proofs.Marking.{marked-none, marked-same, marked-twice, marked-long}
+
+-- own bytes and those above, and then slices; the list names the slices before those above
+slices-last : (own slices above : Bool) → (own || (slices || above)) ≡ ((own || above) || slices)
+slices-last true slices above = refl
+slices-last false true true = refl
+slices-last false true false = refl
+slices-last false false true = refl
+slices-last false false false = refl
+
+-- the test of the block comes first
+block-first : (code own tall falls : Bool) → ((code && own) || (tall && (code && falls))) ≡ (code && (own || (tall && falls)))
+block-first true own tall falls = refl
+block-first false own tall falls = and-false tall
+
+module _ (shown : Shown) (m : List ℕ) (x y : ℕ) (page : onPage x y ≡ true) where
+  abbrev first : ℕ
+  first = firstBlock shown
+
+  abbrev tall : ℕ → Bool
+  tall r = tallAt m first (rowY (yorOf shown) r)
+
+  abbrev falls : ℕ → Bool
+  falls = fallsTo tall (rowAt (yorOf shown) y)
+
+  -- a byte of its own
+  own : (z r : ℕ) → r < 25 → rowHolds shown (placeOf x y z) r ≡ (codeBlock first z && eqb r (rowAt (yorOf shown) y))
+  own z r l =
+      sym (own-bytes x y z page shown r)
+      ∙ ap (λ (t : Bool). codeBlock first z && t) (sym (row-at (yorOf shown) y r l (facts-y y (page-row x y page))))
+
+  -- or of a row above
+  reached : (z r : ℕ) → r < 25 → (rowHolds shown (placeOf x y z) r || aboveHolds shown m (placeOf x y z) r) ≡ (codeBlock first z && falls r)
+  unfolding aboveHolds fallsTo hasTall
+  reached z zero l = or-false (rowHolds shown (placeOf x y z) 0) ∙ own z 0 l
+  reached z (suc r) l =
+      ap₂ _||_ (own z (suc r) l) (ap (λ (t : Bool). tall (suc r) && t) (reached z r (omega arith)))
+      ∙ block-first (codeBlock first z) (eqb (suc r) (rowAt (yorOf shown) y)) (tall (suc r)) (falls r)
+
+  module _ (blocks : List ℕ) where
+    -- in some block
+    some-reached : (t : Bool) → someBlock (λ z. codeBlock first z && t) blocks ≡ (someCodeBlock first blocks && t)
+    unfolding someCodeBlock
+    some-reached true =
+        some-same blocks (λ z. codeBlock first z && true) (codeBlock first) (λ z. plain (codeBlock first z))
+        ∙ some-each blocks (codeBlock first) (no-code-block first (omega arith))
+        ∙ sym (plain (codeBlock first (getD blocks 0 0) || (codeBlock first (getD blocks 1 0) || codeBlock first (getD blocks 2 0))))
+      where
+        plain : (b : Bool) → (b && true) ≡ b
+        plain true = refl
+        plain false = refl
+    some-reached false =
+        some-same blocks (λ z. codeBlock first z && false) (λ z. false) (λ z. and-false (codeBlock first z))
+        ∙ some-none blocks
+        ∙ sym (and-false (codeBlock first (getD blocks 0 0) || (codeBlock first (getD blocks 1 0) || codeBlock first (getD blocks 2 0))))
+
+    -- a slice of some block
+    module _ (bytes : (k : ℕ) → getD m k 0 < 256) where
+      some-slices :
+          (r : ℕ)
+          → someBlock (λ z. slicesHold shown m (placeOf x y z) r) blocks ≡ keyedAt (keysOf shown x y blocks) m first (rowY (yorOf shown) r)
+      unfolding slicesHold codeOf
+      some-slices r =
+          some-any blocks (λ z i. cellHolds shown (placeOf x y z) (codeAt shown m r i)) 40
+          ∙ any-same _ _ 40 (λ i l. sym (keyed-cell shown x y page blocks (codeAt shown m r i) (bytes (placeOf i (rowY (yorOf shown) r) (blockOf first 1)))))
+
+      pub asked :
+          (r : ℕ) → r < 25
+          → someOnList shown m x y blocks r
+          ≡ ((someCodeBlock first blocks && falls r) || keyedAt (keysOf shown x y blocks) m first (rowY (yorOf shown) r))
+      unfolding someOnList onList
+      asked r l =
+          some-same blocks _ (λ z. (codeBlock first z && falls r) || slicesHold shown m (placeOf x y z) r)
+          (λ z.
+          slices-last (rowHolds shown (placeOf x y z) r) (slicesHold shown m (placeOf x y z) r) (aboveHolds shown m (placeOf x y z) r)
+          ∙ ap (λ (t : Bool). t || slicesHold shown m (placeOf x y z) r) (reached z r l))
+          ∙ some-or blocks (λ z. codeBlock first z && falls r) (λ z. slicesHold shown m (placeOf x y z) r)
+          ∙ ap₂ _||_ (some-reached (falls r)) (some-slices r)
+
+      -- the rows that are reached are marked, and then those whose cells the keys fit; z, yor and keys are what the code has
+      module _
+          (z yor : ℕ) (keys : Keys) (ez : z ≡ firstBlock shown) (eo : yor ≡ yorOf shown) (ek : keys ≡ keysOf shown x y blocks)
+          (marks between : List Bool)
+          (d : between ≡ markedToo (λ r. someCodeBlock z blocks && fallsTo (λ i. tallAt m z (rowY yor i)) (rowAt yor y) r) marks)
+        where
+          pub list-asked : (after : List Bool) → after ≡ markedToo (λ r. keyedAt keys m z (rowY yor r)) between → after ≡ markedToo (someOnList shown m x y blocks) marks
+          list-asked after e =
+              e
+              ∙ ap (markedToo (λ r. keyedAt keys m z (rowY yor r))) d
+              ∙ marked-twice _ marks _ _ (λ r l. rw (ez, eo, ek) (sym (asked r l)))
+
+          -- no byte can have the source
+          pub list-left : (source : Bool) → source ≡ isSource keys → source ≡ false → between ≡ markedToo (someOnList shown m x y blocks) marks
+          list-left source es none =
+              list-asked between (marked-none _ between (ap length d ∙ marked-long _ marks) (λ r l. no-source keys 40 (sym es ∙ none) m z (rowY yor r) bytes))
+
+-- whether a block of the page is among them
+module _ (some code : Bool) (es : some ≡ code) (tall : ℕ → Bool) (at : ℕ) (marks : List Bool) where
+  pub own-reached :
+      (row : ℕ) (after : List Bool) → some ≡ true → row ≡ at → after ≡ markedToo (fallsTo tall row) marks
+      → after ≡ markedToo (λ r. code && fallsTo tall at r) marks
+  own-reached row after t ea e =
+      e ∙ marked-same _ marks _ (λ i l. ap (λ (k : ℕ). fallsTo tall k i) ea ∙ sym (ap (λ (b : Bool). b && fallsTo tall at i) (sym es ∙ t)))
+
+  pub own-left : some ≡ false → length marks ≡ 25 → marks ≡ markedToo (λ r. code && fallsTo tall at r) marks
+  own-left f h = marked-none _ marks h (λ i l. ap (λ (b : Bool). b && fallsTo tall at i) (sym es ∙ f))

@@ -1,0 +1,92 @@
+use Rattle.address.specs.Places.{blockOf}
+use mathlib.Core.Path.{sym, _∙_}
+use native.Mathlib.Omega.{arith}
+use Rattle.address.specs.Boards.{boardBlocks}
+use Rattle.address.proofs.Laws.{legal-page, legal-block}
+use Rattle.marking.proofs.Changes.{here-fits, changed-at, code-changes, changes-none}
+use borrow.Author.Needs.{needs}
+use Rattle.marking.proofs.store.code_marks.Statement.{statement}
+use Rattle.marking.proofs.store.code_marks.Tie as tie
+
+cast-place-at : tie.Need-cast-place-at
+cast-place-at c = search needs
+
+cast-place-at-2 : tie.Need-cast-place-at-2
+cast-place-at-2 c = search needs
+
+place-at-requires : tie.Need-place-at-requires
+place-at-requires c κs = search needs
+
+block-requires : tie.Need-block-requires
+block-requires c κs = search needs
+
+changed-block-requires : tie.Need-changed-block-requires
+changed-block-requires c κs = let s = c .before .before .before .before .before in
+    (search needs, here-fits _ _ _ (legal-page boardBlocks (s .args .at) (s .pre .1)) (c .before .place-at .ensures), omega (arith, c .block .ensures, legal-block boardBlocks (s .args .at) (s .pre .1)))
+
+block-requires-2 : tie.Need-block-requires-2
+block-requires-2 c κs = search needs
+
+changed-block-requires-2 : tie.Need-changed-block-requires-2
+changed-block-requires-2 c κs = let s = c .before .before .before .before .before .before .before in
+    (search needs, here-fits _ _ _ (legal-page boardBlocks (s .args .at) (s .pre .1)) (c .before .before .before .place-at .ensures), omega (arith, c .block2 .ensures, legal-block boardBlocks (s .args .at) (s .pre .1)))
+
+block-requires-3 : tie.Need-block-requires-3
+block-requires-3 c κs = search needs
+
+changed-block-requires-3 : tie.Need-changed-block-requires-3
+changed-block-requires-3 c κs = let s = c .before .before .before .before .before .before .before .before .before in
+    (search needs, here-fits _ _ _ (legal-page boardBlocks (s .args .at) (s .pre .1)) (c .before .before .before .before .before .place-at .ensures), omega (arith, c .block3 .ensures, legal-block boardBlocks (s .args .at) (s .pre .1)))
+
+some-changed-requires : tie.Need-some-changed-requires
+some-changed-requires c κs = search needs
+
+returns : tie.Need-returns
+returns c = let c3 = c .before .before in
+    let c2 = c3 .before .before in
+    let c1 = c2 .before .before in
+    let p = c1 .before .before in
+    let s = p .before .before .before .before in
+    let a = s .args in
+    changes-none (a .shown) (a .memory .now) (a .marks) (search needs) (a .at .x) (a .at .y) _ _ (c .before .some-changed .ensures) (c .if1 .taken)
+    ∙ sym
+    (code-changes (a .shown) (a .memory .now) (a .marks) (search needs) (a .at) (s .pre .1) _ _ _ _ _ _
+    (changed-at (a .memory .now) (a .at .x) (a .at .y) (blockOf (a .at .z) 0) _ _ _ _ (p .place-at .ensures) (omega (arith, c1 .before .block .ensures)) (c1 .changed-block .ensures))
+    (changed-at (a .memory .now) (a .at .x) (a .at .y) (blockOf (a .at .z) 1) _ _ _ _ (p .place-at .ensures) (omega (arith, c2 .before .block2 .ensures)) (c2 .changed-block2 .ensures))
+    (changed-at (a .memory .now) (a .at .x) (a .at .y) (blockOf (a .at .z) 2) _ _ _ _ (p .place-at .ensures) (omega (arith, c3 .before .block3 .ensures)) (c3 .changed-block3 .ensures)))
+
+change-marks-requires : tie.Need-change-marks-requires
+change-marks-requires c κs = let s = c .before .before .before .before .before .before .before .before .before .before .before .before in
+    (search needs, legal-page boardBlocks (s .args .at) (s .pre .1))
+
+returns-2 : tie.Need-returns-2
+returns-2 c = let c3 = c .before .before .before in
+    let c2 = c3 .before .before in
+    let c1 = c2 .before .before in
+    let p = c1 .before .before in
+    let s = p .before .before .before .before in
+    let a = s .args in
+    c .change-marks .ensures
+    ∙ sym
+    (code-changes (a .shown) (a .memory .now) (a .marks) (search needs) (a .at) (s .pre .1) _ _ _ _ _ _
+    (changed-at (a .memory .now) (a .at .x) (a .at .y) (blockOf (a .at .z) 0) _ _ _ _ (p .place-at .ensures) (omega (arith, c1 .before .block .ensures)) (c1 .changed-block .ensures))
+    (changed-at (a .memory .now) (a .at .x) (a .at .y) (blockOf (a .at .z) 1) _ _ _ _ (p .place-at .ensures) (omega (arith, c2 .before .block2 .ensures)) (c2 .changed-block2 .ensures))
+    (changed-at (a .memory .now) (a .at .x) (a .at .y) (blockOf (a .at .z) 2) _ _ _ _ (p .place-at .ensures) (omega (arith, c3 .before .block3 .ensures)) (c3 .changed-block3 .ensures)))
+
+pub code-marks-spec : {M : Type 1} → statement M
+code-marks-spec =
+    tie.close
+    (tie.spec
+    cast-place-at
+    cast-place-at-2
+    place-at-requires
+    block-requires
+    changed-block-requires
+    block-requires-2
+    changed-block-requires-2
+    block-requires-3
+    changed-block-requires-3
+    some-changed-requires
+    returns
+    change-marks-requires
+    returns-2)

@@ -1,0 +1,125 @@
+// What a store marks, and what the three stores of a code do, which differ in the block alone.
+ghost use mathlib.Core.Path.{_≡_};
+ghost use mathlib.Core.Bool.{true};
+ghost use Prim.Native.Nat.{_+_, _*_, _<_};
+ghost use lib.ListN.{length};
+ghost use Rattle.basics.specs.Below.{anyBelow};
+ghost use Rattle.address.specs.Boards.{boardBlocks, memoryBytes};
+ghost use Rattle.address.specs.Triples.{legal, onPage};
+ghost use Rattle.address.specs.Places.{placeOf};
+ghost use Rattle.page.specs.Marks.{markedToo};
+ghost use Rattle.reading.specs.Marks.{storeMarks, storesMarks, codeStores};
+ghost use Rattle.marking.specs.HowMarked.{isUnmarked, changedBlock, someOnList, changeMarks};
+use crate::list::list_marks;
+use address::place::block;
+use address::place::place_at;
+use address::triple::Triple;
+use asking::key::some_changed;
+use shown::Shown;
+
+// From the last row up: after a draw that is the first look.
+fn some_unmarked(marks: &[bool; 25]) -> bool
+    ensures { λ r. ⌜ r ≡ anyBelow (isUnmarked (now (marks .entry))) 25 ⌝ }
+{
+    let mut r = 25;
+    while r > 0 {
+        r -= 1;
+        if !marks[r] {
+            return true;
+        }
+    }
+    false
+}
+
+// Where every row is marked none is asked.
+fn asked_marks(
+    marks: [bool; 25],
+    shown: Shown,
+    memory: &[u8],
+    x: u8,
+    y: u8,
+    blocks: [u8; 3],
+) -> [bool; 25]
+    requires { ⌜ (length (now memory) ≡ memoryBytes) × (onPage x y ≡ true) ⌝ }
+    ensures { λ r. ⌜ r ≡ markedToo (someOnList shown (now (memory .entry)) x y blocks) marks ⌝ }
+{
+    let mut after = marks;
+    if some_unmarked(&after) {
+        list_marks(&mut after, shown, memory, x, y, blocks);
+    }
+    after
+}
+
+// The marks after bytes at X and Y have changed in the blocks.
+fn change_marks(
+    marks: [bool; 25],
+    shown: Shown,
+    memory: &[u8],
+    x: u8,
+    y: u8,
+    blocks: [u8; 3],
+) -> [bool; 25]
+    requires { ⌜ (length (now memory) ≡ memoryBytes) × (onPage x y ≡ true) ⌝ }
+    ensures { λ r. ⌜ r ≡ changeMarks shown (now (memory .entry)) x y blocks marks ⌝ }
+{
+    if shown.can_draw() {
+        return asked_marks(marks, shown, memory, x, y, blocks);
+    }
+    marks
+}
+
+// Block Z where the value changes the byte that it has at this offset, and else 255.
+fn changed_block(memory: &[u8], at: usize, z: u8, value: u8) -> u8
+    requires { ⌜ (length (now memory) ≡ memoryBytes) × (at < 1024) × (z < boardBlocks) ⌝ }
+    ensures { λ r. ⌜ r ≡ changedBlock (now (memory .entry)) (1024 * z + at) z value ⌝ }
+{
+    if memory[z as usize * 1024 + at] == value {
+        return 255;
+    }
+    z
+}
+
+// The marks after C, B and A are stored at a legal triple and in the two blocks after its own; the stores themselves come after. Three
+// stores mark what the lists before the first of them hold, so one look at a row answers for all three.
+pub fn code_marks(
+    marks: [bool; 25],
+    shown: Shown,
+    memory: &[u8],
+    at: Triple,
+    c: u8,
+    b: u8,
+    a: u8,
+) -> [bool; 25]
+    requires { ⌜ (length (now memory) ≡ memoryBytes) × (legal at ≡ true) ⌝ }
+    ensures { λ r. ⌜ r ≡ storesMarks shown (now (memory .entry)) (codeStores at c b a) marks ⌝ }
+{
+    let here = place_at(at.x as u16, at.y as u16, 0);
+    let blocks = [
+        changed_block(memory, here, block(at.z, 0), c),
+        changed_block(memory, here, block(at.z, 1), b),
+        changed_block(memory, here, block(at.z, 2), a),
+    ];
+    if !some_changed(blocks) {
+        return marks;
+    }
+    change_marks(marks, shown, memory, at.x, at.y, blocks)
+}
+
+// The marks after a store of `value` at a legal triple; the store itself comes after.
+pub fn store_marks(
+    marks: [bool; 25],
+    shown: Shown,
+    memory: &[u8],
+    at: Triple,
+    value: u8,
+) -> [bool; 25]
+    requires { ⌜ (length (now memory) ≡ memoryBytes) × (legal at ≡ true) ⌝ }
+    ensures { λ r. ⌜ r ≡ storeMarks shown (now (memory .entry)) (placeOf (at .x) (at .y) (at .z)) value marks ⌝ }
+{
+    let here = place_at(at.x as u16, at.y as u16, 0);
+    let blocks = [changed_block(memory, here, at.z, value), 255, 255];
+    if !some_changed(blocks) {
+        return marks;
+    }
+    change_marks(marks, shown, memory, at.x, at.y, blocks)
+}
