@@ -25,11 +25,11 @@ use Rattle.shown.specs.declared.Shown.{Shown}
 use Rattle.cell.specs.Cells.{setOf, bichromeOf, quadrichromeOf, isQuadrichrome, cellOf}
 use Rattle.cell.specs.declared.kind.Cell.the-variants.{Bichrome, Quadrichrome}
 use Rattle.cell.proofs.Codes.{set-UserG0, set-UserG1, cell-bichrome, cell-quadrichrome}
-use Rattle.page.specs.Sources.{setSource, cellSource, characterOf}
-use Rattle.page.specs.declared.source.Source.{Source}
-use Rattle.page.specs.declared.source.Source.the-variants.{Rom, Block}
+use Rattle.sources.specs.Sources.{setSource, cellSource, characterOf}
+use Rattle.sources.specs.declared.source.Source.{Source}
+use Rattle.sources.specs.declared.source.Source.the-variants.{Rom, Block}
 use Rattle.reading.specs.Lists.{isAt, sourceHolds, cellHolds}
-use Rattle.page.proofs.SliceSources.{Fitting, source-fitting}
+use Rattle.sources.proofs.SliceSources.{Fitting, source-fitting}
 use Rattle.asking.specs.declared.key.Keys.{Keys}
 use Rattle.asking.specs.HowAsked.{keyIf, isOne, someBlock, quadKey, keysOf, keysHigh, fromBlock, keyed}
 use Rattle.asking.proofs.Tests.{together}

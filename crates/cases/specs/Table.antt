@@ -17,8 +17,8 @@ use Rattle.shown.specs.declared.Shown.{Shown}
 use Rattle.colour.specs.Colours.{nibbleOf}
 use Rattle.colour.specs.Ranks.{colourOfRank, hasRank, rankOf}
 use Rattle.cell.specs.Cells.{cellOf, bichromeOf, quadrichromeOf, setOf, resolutionOf}
-use Rattle.cell.specs.Slices.{sliceOfTwenty}
-use Rattle.cell.specs.Pixels.{concealed, flashed, inverted, inked, cellLine}
+use Rattle.pixels.specs.Slices.{sliceOfTwenty}
+use Rattle.pixels.specs.Pixels.{concealed, flashed, inverted, inked, cellLine}
 
 pub record Case : Type 0 where
   pub given : List ℕ

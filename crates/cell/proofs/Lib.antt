@@ -1,5 +1,2 @@
 pub mod Codes
-pub mod Attributes
-pub mod Heights
-pub mod Bytes
-pub mod Drawn
+pub mod Resolutions

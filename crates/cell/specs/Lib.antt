@@ -1,4 +1,1 @@
 pub mod Cells
-pub mod Slices
-pub mod Pixels
-pub mod HowPairs

@@ -1,6 +1,3 @@
-// A cell of the 24-bit code: its attributes, the slice that each line shows, and the packed pairs that its lines are made of.
+// The cell of the 24-bit code: its kinds, its attributes and the decoder.
 pub mod decode;
-pub mod height;
 pub mod kind;
-pub mod pairs;
-pub mod width;

@@ -20,13 +20,14 @@ use Rattle.cell.specs.declared.kind.Cell.{Cell}
 use Rattle.cell.specs.declared.kind.Cell.the-variants.{Bichrome}
 use Rattle.cell.specs.Cells.{setOf, bichromeOf}
 use Rattle.cell.proofs.Codes.{cell-bichrome}
-use Rattle.page.specs.Sources.{setSource, romSlice, sliceFrom, slicesOf}
+use Rattle.sources.specs.Sources.{setSource, romSlice, sliceFrom, slicesOf}
 use Rattle.page.specs.Inputs.{decoded}
-use Rattle.page.specs.declared.source.Source.{Source}
-use Rattle.page.specs.declared.source.Source.the-variants.{Rom}
+use Rattle.sources.specs.declared.source.Source.{Source}
+use Rattle.sources.specs.declared.source.Source.the-variants.{Rom}
 use Rattle.columns.specs.HowColumns.{putAt}
 use Rattle.columns.specs.HowTens.{isPlain, setNumber, tenOf}
-use Rattle.columns.proofs.Tens.{shown-single, ten-whole}
+use Rattle.slices.proofs.Slices.{shown-single}
+use Rattle.columns.proofs.Tens.{ten-whole}
 
 -- the sets of B7..B4 below 8 are those of the ROM
 set-plain : (shown : Shown) (high : ℕ) → high < 8 → setSource shown (setOf high) ≡ Rom (setNumber high)

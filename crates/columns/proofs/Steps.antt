@@ -15,7 +15,7 @@ use Rattle.basics.proofs.Parts.{length-table, table-at}
 use Rattle.shown.specs.declared.Shown.{Shown}
 use Rattle.cell.specs.declared.kind.Cell.{Cell}
 use Rattle.cell.specs.declared.kind.Cell.the-variants.{Bichrome, Quadrichrome}
-use Rattle.cell.specs.HowPairs.{bichromePairs, quadrichromePairs, cellPairs}
+use Rattle.pixels.specs.HowPairs.{bichromePairs, quadrichromePairs, cellPairs}
 use Rattle.columns.specs.HowTens.{stepTo, stepsOf, fromSteps}
 
 -- a byte and the step from it

@@ -6,25 +6,16 @@ use mathlib.Core.Bool.{Bool, true, false, _&&_}
 use mathlib.Core.List.{List, [], _∷_}
 use lib.Dec.{ltb, eqb}
 use lib.ListN.{getD}
-use Rattle.basics.specs.Choice.{pick}
 use Rattle.basics.specs.Bits.{fromBits}
 use Rattle.basics.specs.Parts.{table}
 use Rattle.shown.specs.declared.Shown.{Shown}
 use Rattle.cell.specs.declared.kind.Cell.{Cell}
-use Rattle.cell.specs.Slices.{sliceOfTwenty, sliceShown}
-use Rattle.cell.specs.Pixels.{takenBit}
-use Rattle.cell.specs.HowPairs.{cellPairs, wideOf}
-use Rattle.page.specs.Sources.{slicesOf}
+use Rattle.pixels.specs.Slices.{sliceShown}
+use Rattle.pixels.specs.Pixels.{takenBit}
+use Rattle.pixels.specs.HowPairs.{cellPairs, wideOf}
+use Rattle.sources.specs.Sources.{slicesOf}
 use Rattle.page.specs.Inputs.{decoded}
 use Rattle.columns.specs.HowColumns.{sideBySide}
-
--- the slice of line n of a half of a double height cell
-abbrev pub twentyAt : Bool → Bool → ℕ → ℕ
-twentyAt alphanumeric lower n = sliceOfTwenty alphanumeric (pick lower (10 + n) n)
-
--- of ten slices those that ten lines show, by their numbers
-abbrev pub byNumber : List ℕ → (ℕ → ℕ) → List ℕ
-byNumber slices number = table (λ n. getD slices (number n) 0) 10
 
 -- of slice n of ten the half that is shown
 abbrev pub doubledOf : List ℕ → Bool → ℕ → ℕ

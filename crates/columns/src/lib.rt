@@ -2,5 +2,4 @@
 pub mod column;
 pub mod pairs;
 pub mod plain;
-pub mod slice;
 pub mod ten;

@@ -3,7 +3,7 @@ ghost use mathlib.Core.Path.{_≡_};
 ghost use Rattle.columns.specs.HowTens.{stepTo, stepsOf, pairsOf};
 use crate::column::put_column;
 use cell::decode::decode;
-use cell::pairs::cell_pairs;
+use pixels::pairs::cell_pairs;
 use shown::Shown;
 
 // From one byte to another, modulo 256.

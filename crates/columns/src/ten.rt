@@ -5,19 +5,19 @@ ghost use lib.ListN.{length};
 ghost use Rattle.basics.specs.Parts.{table};
 ghost use Rattle.address.specs.Boards.{memoryBytes};
 ghost use Rattle.shown.specs.Lengths.{romBytes};
-ghost use Rattle.cell.specs.HowPairs.{wideOf};
+ghost use Rattle.pixels.specs.HowPairs.{wideOf};
 ghost use Rattle.page.specs.Inputs.{decoded};
 ghost use Rattle.columns.specs.HowColumns.{putAt};
 ghost use Rattle.columns.specs.HowTens.{doubledOf, tenOf, tensOf};
 use crate::column::put_column;
 use crate::plain::is_plain;
 use crate::plain::rom_start;
-use crate::slice::shown_slices;
 use cell::decode::decode;
 use cell::kind::Cell;
-use cell::width::doubled;
-use page::source::slices_of;
+use pixels::width::doubled;
 use shown::Shown;
+use slices::slice::shown_slices;
+use sources::source::slices_of;
 
 pub fn is_wide(cell: Cell) -> bool
     ensures { λ r. ⌜ r ≡ wideOf cell ⌝ }

@@ -16,11 +16,11 @@ use Rattle.address.specs.Places.{byteAt}
 use Rattle.shown.specs.declared.Shown.{Shown}
 use Rattle.page.specs.Codes.{codeAt}
 use Rattle.page.specs.Halves.{isTall, isWide, goesOn, secondHalf, lowerHalf, rightHalf}
-use Rattle.page.specs.Sources.{cellSource, characterOf, byteOr, keptSlice}
+use Rattle.sources.specs.Sources.{cellSource, characterOf, byteOr, keptSlice}
 use Rattle.page.specs.Inputs.{decoded, Slices, takenFrom, cellInput, rowInput}
-use Rattle.page.specs.declared.source.Source.{Source}
-use Rattle.page.specs.declared.source.Source.the-variants.{Rom, Block}
-use Rattle.page.proofs.Halves.{half-same}
+use Rattle.sources.specs.declared.source.Source.{Source}
+use Rattle.sources.specs.declared.source.Source.the-variants.{Rom, Block}
+use Rattle.halves.proofs.Halves.{half-same}
 use Rattle.picture.specs.Rows.{painted}
 use Rattle.reading.specs.Lists.{rowHolds, isAt, sourceHolds, cellHolds, slicesHold, hasTall, onList}
 use Rattle.reading.specs.Agreeing.{Agree, AgreeOnList}

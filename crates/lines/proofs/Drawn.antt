@@ -16,12 +16,12 @@ use Rattle.basics.proofs.Parts.{length-joined, joined-front, table-at, joined-s
 use Rattle.shown.specs.declared.Shown.{Shown}
 use Rattle.shown.specs.Lengths.{columnBytes, lineBytes}
 use Rattle.cell.specs.declared.kind.Cell.{Cell}
-use Rattle.cell.specs.Slices.{sliceShown}
-use Rattle.cell.specs.Pixels.{takenBit, cellLine}
-use Rattle.cell.specs.HowPairs.{cellPairs, wideOf, underlineOf, underlinedOn, effectiveOf, fourBy}
-use Rattle.cell.proofs.Bytes.{effective-lined, effective-taken}
-use Rattle.cell.proofs.Drawn.{pairs-line, four-long}
-use Rattle.page.specs.Sources.{slicesOf}
+use Rattle.pixels.specs.Slices.{sliceShown}
+use Rattle.pixels.specs.Pixels.{takenBit, cellLine}
+use Rattle.pixels.specs.HowPairs.{cellPairs, wideOf, underlineOf, underlinedOn, effectiveOf, fourBy}
+use Rattle.pixels.proofs.Bytes.{effective-lined, effective-taken}
+use Rattle.pixels.proofs.Drawn.{pairs-line, four-long}
+use Rattle.sources.specs.Sources.{slicesOf}
 use Rattle.page.specs.Inputs.{decoded}
 use Rattle.columns.specs.HowColumns.{byteIn}
 use Rattle.columns.specs.HowTens.{takenAt, tenOf, tenAt, tensOf, fromSteps, pairsAt, pairsOf}

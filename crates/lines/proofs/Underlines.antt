@@ -16,9 +16,9 @@ use Rattle.basics.proofs.Parts.{table-at, table-same}
 use Rattle.cell.specs.declared.kind.BichromeCell.{BichromeCell}
 use Rattle.cell.specs.declared.kind.Cell.the-variants.{Bichrome, Quadrichrome}
 use Rattle.cell.specs.Cells.{alphanumericOf, bichromeOf, quadrichromeOf, isQuadrichrome, cellOf}
-use Rattle.cell.specs.Slices.{sliceOfTwenty, bichromeSlice}
-use Rattle.cell.specs.HowPairs.{underlinedOn}
-use Rattle.cell.proofs.Heights.{twenty-alphanumeric, slice-single, slice-lower, slice-upper}
+use Rattle.pixels.specs.Slices.{sliceOfTwenty, bichromeSlice}
+use Rattle.pixels.specs.HowPairs.{underlinedOn}
+use Rattle.pixels.proofs.Heights.{twenty-alphanumeric, slice-single, slice-lower, slice-upper}
 use Rattle.columns.specs.HowColumns.{byteIn}
 use Rattle.lines.specs.HowLines.{linedByte, linedOn, bytesOn}
 

@@ -7,7 +7,7 @@ use mathlib.Core.List.{List, [], _∷_}
 use lib.ListN.{getD}
 use Rattle.basics.specs.Choice.{pick}
 use Rattle.basics.specs.Parts.{table, joined}
-use Rattle.cell.specs.HowPairs.{underlinedOn, fourBy}
+use Rattle.pixels.specs.HowPairs.{underlinedOn, fourBy}
 use Rattle.page.specs.Inputs.{decoded}
 use Rattle.columns.specs.HowColumns.{byteIn}
 use Rattle.columns.specs.HowTens.{fromSteps}

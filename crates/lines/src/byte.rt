@@ -5,7 +5,7 @@ ghost use Rattle.basics.specs.Parts.{table};
 ghost use Rattle.columns.specs.HowColumns.{byteIn};
 ghost use Rattle.lines.specs.HowLines.{linedByte, linedOn, bytesOn};
 use cell::decode::decode;
-use cell::height::is_underlined_on;
+use pixels::height::is_underlined_on;
 
 // A byte of line n, underlined where it is.
 pub fn lined(code: [u8; 3], lower: bool, n: u8, byte: u8) -> u8

@@ -6,7 +6,7 @@ ghost use lib.ListN.{length, getD, take, drop};
 ghost use Rattle.basics.specs.Choice.{pick};
 ghost use Rattle.basics.specs.Parts.{joined};
 ghost use Rattle.shown.specs.Lengths.{columnBytes, lineBytes};
-ghost use Rattle.cell.specs.HowPairs.{fourBy};
+ghost use Rattle.pixels.specs.HowPairs.{fourBy};
 ghost use Rattle.columns.specs.HowTens.{fromSteps};
 ghost use Rattle.lines.specs.HowLines.{fourOf};
 

@@ -1,4 +1,2 @@
 pub mod Codes
 pub mod Stretches
-pub mod Halves
-pub mod SliceSources

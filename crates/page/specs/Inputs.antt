@@ -11,9 +11,9 @@ use Rattle.cell.specs.declared.kind.Cell.{Cell}
 use Rattle.cell.specs.Cells.{isQuadrichrome, cellOf}
 use Rattle.page.specs.Codes.{codeAt}
 use Rattle.page.specs.Halves.{lowerHalf, rightHalf}
-use Rattle.page.specs.Sources.{cellSource, characterOf, keptSlice, romSlice}
-use Rattle.page.specs.declared.source.Source.{Source}
-use Rattle.page.specs.declared.source.Source.the-variants.{Rom, Block}
+use Rattle.sources.specs.Sources.{cellSource, characterOf, keptSlice, romSlice}
+use Rattle.sources.specs.declared.source.Source.{Source}
+use Rattle.sources.specs.declared.source.Source.the-variants.{Rom, Block}
 
 -- the cell of three code bytes
 abbrev pub decoded : List ℕ → Cell

@@ -1,6 +1,5 @@
 pub mod Codes
 pub mod Halves
-pub mod Sources
 pub mod Inputs
 pub mod Marks
 pub mod HowHalves

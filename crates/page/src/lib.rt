@@ -1,5 +1,3 @@
-// A page: the cells of a screen row, which half of a double size cell is shown, and where a cell's slices come from.
+// A page: the cells of a screen row, and what is asked of their bytes where they stand side by side in memory.
 pub mod code;
-pub mod half;
-pub mod source;
 pub mod stretch;

@@ -11,7 +11,7 @@ use Rattle.shown.specs.Lengths.{columnBytes}
 use Rattle.colour.specs.Colours.{packedOf}
 use Rattle.cell.specs.declared.kind.Cell.{Cell}
 use Rattle.cell.specs.declared.kind.Cell.the-variants.{Bichrome, Quadrichrome}
-use Rattle.cell.specs.Pixels.{dyed, cellPixel, cellLine}
+use Rattle.pixels.specs.Pixels.{dyed, cellPixel, cellLine}
 use Rattle.page.specs.Inputs.{CellInput, decoded, noInput}
 use Rattle.picture.specs.Rows.{paintedLine, painted}
 

@@ -8,19 +8,19 @@ use lib.ListN.{getD}
 use Rattle.basics.specs.Parts.{table, joined}
 use Rattle.basics.proofs.Parts.{table-at, table-same, joined-same}
 use Rattle.shown.specs.declared.Shown.{Shown}
-use Rattle.cell.specs.Slices.{sliceShown}
-use Rattle.cell.specs.Pixels.{cellLine}
+use Rattle.pixels.specs.Slices.{sliceShown}
+use Rattle.pixels.specs.Pixels.{cellLine}
 use Rattle.page.specs.Codes.{codeAt, rowBuffer}
 use Rattle.page.specs.Halves.{lowerHalf, rightHalf, lowerHalves}
 use Rattle.page.specs.HowHalves.{rightIn}
-use Rattle.page.specs.Sources.{characterOf, cellSource, keptSlice, sliceFrom, slicesOf}
+use Rattle.sources.specs.Sources.{characterOf, cellSource, keptSlice, sliceFrom, slicesOf}
 use Rattle.page.specs.Inputs.{decoded, takenFrom, sliceByte, cellInput, noInput, rowInput}
-use Rattle.page.specs.declared.source.Source.{Source}
-use Rattle.page.specs.declared.source.Source.the-variants.{Rom, Block}
-use Rattle.page.proofs.Halves.{right-row}
+use Rattle.sources.specs.declared.source.Source.{Source}
+use Rattle.sources.specs.declared.source.Source.the-variants.{Rom, Block}
+use Rattle.halves.proofs.Halves.{right-row}
 use Rattle.columns.specs.HowTens.{tensOf, pairsOf}
 use Rattle.lines.specs.HowLines.{lineOn}
-use Rattle.columns.proofs.Tens.{shown-small}
+use Rattle.slices.proofs.Slices.{shown-small}
 use Rattle.lines.proofs.Drawn.{pixelsOn, drawn-line}
 use Rattle.picture.specs.Rows.{paintedCell, paintedLine, painted}
 use Rattle.picture.specs.HowRows.{inputAt, inputsOf}

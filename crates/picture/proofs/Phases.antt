@@ -13,7 +13,7 @@ use Rattle.shown.specs.declared.Shown.{Shown}
 use Rattle.cell.specs.declared.kind.BichromeCell.{BichromeCell}
 use Rattle.cell.specs.declared.kind.Cell.the-variants.{Bichrome, Quadrichrome}
 use Rattle.cell.specs.Cells.{bichromeOf, quadrichromeOf, isQuadrichrome, cellOf}
-use Rattle.cell.specs.Pixels.{concealed, flashed, dyed}
+use Rattle.pixels.specs.Pixels.{concealed, flashed, dyed}
 use Rattle.page.specs.Inputs.{CellInput, flashes, noInput}
 use Rattle.picture.specs.Rows.{painted}
 use Rattle.picture.proofs.Alike.{Alike, painted-alike}

@@ -13,7 +13,7 @@ use Rattle.basics.proofs.Below.{any-not, count-never}
 use Rattle.basics.proofs.Parts.{length-table}
 use Rattle.shown.specs.declared.Shown.{Shown}
 use Rattle.shown.specs.Lengths.{columnBytes, lineBytes, rowBytes, pictureBytes}
-use Rattle.cell.specs.Pixels.{cellLine}
+use Rattle.pixels.specs.Pixels.{cellLine}
 use Rattle.page.specs.Codes.{rowBuffer}
 use Rattle.page.specs.Halves.{lowerHalves}
 use Rattle.page.specs.HowHalves.{KnownAbove}

@@ -12,9 +12,9 @@ use Rattle.cell.specs.declared.kind.Set.{Set}
 use Rattle.cell.specs.declared.kind.Set.the-variants.{G0, G10, G11, G20, G21, UserG0, UserG1}
 use Rattle.cell.specs.declared.kind.Cell.{Cell}
 use Rattle.cell.specs.declared.kind.Cell.the-variants.{Bichrome, Quadrichrome}
-use Rattle.cell.specs.Pixels.{concealed, flashed}
+use Rattle.pixels.specs.Pixels.{concealed, flashed}
 use Rattle.page.specs.Codes.{codeAt}
-use Rattle.page.specs.Sources.{setSource, cellSource}
+use Rattle.sources.specs.Sources.{setSource, cellSource}
 use Rattle.page.specs.Inputs.{CellInput, decoded, cellInput, noInput, rowInput}
 use Rattle.picture.specs.Rows.{painted, rowOf}
 use Rattle.picture.proofs.Alike.{Alike, painted-alike}

@@ -7,7 +7,7 @@ use mathlib.Core.List.{List, []}
 use lib.ListN.{getD}
 use Rattle.basics.specs.Parts.{table}
 use Rattle.shown.specs.declared.Shown.{Shown}
-use Rattle.page.specs.Sources.{characterOf, cellSource}
+use Rattle.sources.specs.Sources.{characterOf, cellSource}
 use Rattle.page.specs.Inputs.{CellInput, decoded, takenFrom}
 use Rattle.page.specs.HowHalves.{rightIn}
 

@@ -7,9 +7,9 @@ use lib.ListN.{getD}
 use Rattle.basics.specs.Parts.{joined}
 use Rattle.shown.specs.declared.Shown.{Shown}
 use Rattle.cell.specs.declared.kind.Cell.{Cell}
-use Rattle.cell.specs.Slices.{sliceShown}
-use Rattle.cell.specs.Pixels.{cellLine}
-use Rattle.page.specs.Sources.{characterOf}
+use Rattle.pixels.specs.Slices.{sliceShown}
+use Rattle.pixels.specs.Pixels.{cellLine}
+use Rattle.sources.specs.Sources.{characterOf}
 use Rattle.page.specs.Inputs.{Slices, CellInput, decoded, sliceByte, noInput, rowInput}
 
 -- line n of a cell: the slice that it shows, and that slice's pixels

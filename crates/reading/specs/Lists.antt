@@ -14,10 +14,10 @@ use Rattle.shown.specs.declared.Shown.{Shown}
 use Rattle.shown.specs.Origins.{yorOf, firstBlock}
 use Rattle.page.specs.Codes.{codeAt}
 use Rattle.page.specs.Halves.{isTall}
-use Rattle.page.specs.Sources.{cellSource, characterOf}
+use Rattle.sources.specs.Sources.{cellSource, characterOf}
 use Rattle.page.specs.Inputs.{decoded}
-use Rattle.page.specs.declared.source.Source.{Source}
-use Rattle.page.specs.declared.source.Source.the-variants.{Rom, Block}
+use Rattle.sources.specs.declared.source.Source.{Source}
+use Rattle.sources.specs.declared.source.Source.the-variants.{Rom, Block}
 
 -- the place of byte k (0 C, 1 B, 2 A) of the cell in row r and column x
 unfoldable pub codePlace : Shown → ℕ → ℕ → ℕ → ℕ

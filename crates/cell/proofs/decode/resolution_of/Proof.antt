@@ -1,4 +1,4 @@
-use Rattle.cell.proofs.Attributes.{resolution-low, resolution-high}
+use Rattle.cell.proofs.Resolutions.{resolution-low, resolution-high}
 use native.Mathlib.Omega.{arith}
 use Rattle.cell.proofs.decode.resolution_of.Statement.{statement}
 use Rattle.cell.proofs.decode.resolution_of.Tie as tie

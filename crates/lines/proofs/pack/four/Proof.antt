@@ -1,6 +1,6 @@
 use Rattle.columns.specs.HowTens.{fromSteps}
 use mathlib.Core.List.{[], _∷_}
-use Rattle.cell.proofs.Drawn.{four-made}
+use Rattle.pixels.proofs.Drawn.{four-made}
 use borrow.Author.Needs.{needs}
 use Rattle.lines.proofs.pack.four.Statement.{statement}
 use Rattle.lines.proofs.pack.four.Tie as tie

@@ -1,5 +1,5 @@
 use Rattle.shown.specs.Lengths.{columnBytes, lineBytes}
-use Rattle.cell.proofs.Drawn.{four-long}
+use Rattle.pixels.proofs.Drawn.{four-long}
 use Rattle.lines.specs.HowLines.{fourOf}
 use Rattle.basics.proofs.Filled.{filled, filled-four}
 use lib.ListN.{length, drop, length-set, take-append-drop}

@@ -1,0 +1,56 @@
+use Rattle.address.proofs.Laws.{row-small}
+use Rattle.halves.proofs.Halves.{on-rows}
+use Rattle.page.proofs.Stretches.{row-stretches}
+use native.Mathlib.Omega.{arith}
+use mathlib.Core.Path.{sym, ap, _∙_}
+use Prim.Native.Nat.{ℕ, _-_}
+use Rattle.address.specs.Rows.{rowY}
+use borrow.Author.Needs.{needs}
+use Rattle.halves.proofs.half.some_go_on.Statement.{statement}
+use Rattle.halves.proofs.half.some_go_on.Tie as tie
+
+first-block-requires : tie.Need-first-block-requires
+first-block-requires c κs = search needs
+
+yor-requires : tie.Need-yor-requires
+yor-requires c κs = search needs
+
+row-y-requires : tie.Need-row-y-requires
+row-y-requires c κs = search needs
+
+yor-requires-2 : tie.Need-yor-requires-2
+yor-requires-2 c κs = search needs
+
+sub-row-y : tie.Need-sub-row-y
+sub-row-y c = search needs
+
+row-y-requires-2 : tie.Need-row-y-requires-2
+row-y-requires-2 c κs = search needs
+
+some-on-requires : tie.Need-some-on-requires
+some-on-requires c κs = (search needs, omega (arith, c .before .before .before .before .first-block .ensures), rw (c .before .before .row-y .ensures) (row-small _ _), rw (c .row-y2 .ensures) (row-small _ _), omega arith, omega arith)
+
+some-on-requires-2 : tie.Need-some-on-requires-2
+some-on-requires-2 c κs = let u = c .before in
+    (search needs, omega (arith, u .before .before .before .before .first-block .ensures), rw (u .before .before .row-y .ensures) (row-small _ _), rw (u .row-y2 .ensures) (row-small _ _), omega arith, omega arith)
+
+returns : tie.Need-returns
+returns c = let u = c .before .before in
+    let y = u .before .before in
+    let a = y .before .before .before .before .args in
+    row-stretches _ _ _ (c .before .some-on .ensures) (c .some-on2 .ensures)
+    ∙ on-rows (a .shown) (a .memory .now) (a .row) _ _ _ _ (y .before .before .first-block .ensures) (y .row-y .ensures) (u .row-y2 .ensures ∙ ap (λ (o : ℕ). rowY o (a .row - 1)) (u .before .yor2 .ensures ∙ sym (y .before .yor .ensures))) (y .before .yor .ensures)
+
+pub some-go-on-spec : {M : Type 1} → statement M
+some-go-on-spec =
+    tie.close
+    (tie.spec
+    first-block-requires
+    yor-requires
+    row-y-requires
+    yor-requires-2
+    sub-row-y
+    row-y-requires-2
+    some-on-requires
+    some-on-requires-2
+    returns)

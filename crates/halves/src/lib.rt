@@ -1,0 +1,2 @@
+// The lower and the right halves of double cells.
+pub mod half;

@@ -1,0 +1,4 @@
+pub mod Attributes
+pub mod Heights
+pub mod Bytes
+pub mod Drawn

@@ -1,0 +1,57 @@
+-- Where a cell's slices come from.
+-- Assumes nothing.
+use Prim.Native.Nat.{ℕ, _+_, _*_, _%_}
+use mathlib.Core.List.{List}
+use Rattle.basics.specs.Bits.{bit, bits}
+use Rattle.address.specs.Places.{byteAt}
+use Rattle.address.specs.Slices.{slicePlaceOf}
+use Rattle.address.specs.declared.slice.SlicePlace.{SlicePlace}
+use Rattle.address.specs.declared.slice.SlicePlace.the-variants.{At, NoByte}
+use Rattle.shown.specs.declared.Shown.{Shown}
+use Rattle.cell.specs.declared.kind.Set.{Set}
+use Rattle.cell.specs.declared.kind.Set.the-variants.{G0, G10, G11, G20, G21, UserG0, UserG1}
+use Rattle.cell.specs.declared.kind.Cell.{Cell}
+use Rattle.cell.specs.declared.kind.Cell.the-variants.{Bichrome, Quadrichrome}
+use Rattle.sources.specs.declared.source.Source.{Source}
+use Rattle.sources.specs.declared.source.Source.the-variants.{Rom, Block}
+
+-- sets in the order G0, G10, G11, G20, G21; user G'0, block DOR 3..0; user G'1s, block 2·DOR 6..4 + s. (s is one bit.)
+abbrev pub setSource : Shown → Set → Source
+setSource shown G0 = Rom 0
+setSource shown G10 = Rom 1
+setSource shown G11 = Rom 2
+setSource shown G20 = Rom 3
+setSource shown G21 = Rom 4
+setSource shown UserG0 = Block (bits 0 4 (shown .dor))
+setSource shown (UserG1 s) = Block (2 * bits 4 3 (shown .dor) + s % 2)
+
+-- Block 8·DOR7 + B5..3. (The cell has B5..3.)
+abbrev pub cellSource : Shown → Cell → Source
+cellSource shown (Bichrome cell) = setSource shown (cell .set)
+cellSource shown (Quadrichrome cell) = Block (8 * bit 7 (shown .dor) + cell .block % 8)
+
+abbrev pub characterOf : Cell → ℕ
+characterOf (Bichrome cell) = cell .character
+characterOf (Quadrichrome cell) = cell .character
+
+-- If that Y is 1..7 the slice is 0 and no byte is read
+abbrev pub byteOr : List ℕ → SlicePlace → ℕ
+byteOr m (At p) = byteAt m p
+byteOr m NoByte = 0
+
+-- slice n of the character c in block z of private memory
+unfoldable pub keptSlice : List ℕ → ℕ → ℕ → ℕ → ℕ
+keptSlice m c z n = byteOr m (slicePlaceOf c n z)
+
+-- ROM slice: 1280·set + 10·(C modulo 128) + slice
+unfoldable pub romSlice : List ℕ → ℕ → ℕ → ℕ → ℕ
+romSlice rom c set n = byteAt rom (1280 * set + 10 * (c % 128) + n)
+
+-- slice n of a character from its source
+abbrev pub sliceFrom : List ℕ → List ℕ → ℕ → Source → ℕ → ℕ
+sliceFrom m rom c (Rom set) n = romSlice rom c set n
+sliceFrom m rom c (Block z) n = keptSlice m c z n
+
+-- slice n of a cell
+unfoldable pub slicesOf : List ℕ → List ℕ → Shown → Cell → ℕ → ℕ
+slicesOf m rom shown cell n = sliceFrom m rom (characterOf cell) (cellSource shown cell) n

@@ -1,0 +1,2 @@
+// Where a cell's slices come from, and the ten of them.
+pub mod source;
