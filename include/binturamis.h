@@ -27,8 +27,8 @@
 /* The version of the library and of this header. */
 #define BINTURAMIS_VERSION_MAJOR 0u
 #define BINTURAMIS_VERSION_MINOR 3u
-#define BINTURAMIS_VERSION_PATCH 2u
-#define BINTURAMIS_VERSION "0.3.2"
+#define BINTURAMIS_VERSION_PATCH 3u
+#define BINTURAMIS_VERSION "0.3.3"
 
 /* The bytes of each thing that is lent. */
 #define BINTURAMIS_PROCESSOR_BYTES 64u

@@ -1,17 +1,20 @@
 -- Laws of a stretch of cells: its bytes stand side by side, and the tests of its bytes are those of its cells.
 -- Assumes nothing.
-use Prim.Native.Nat.{ℕ, _+_, _/_, _%_, _≤_, _<_}
+use Prim.Native.Nat.{ℕ, zero, suc, _+_, _*_, _/_, _%_, _≤_, _<_}
 use mathlib.Core.Path.{_≡_, refl, sym, ap, ap₂, _∙_}
 use mathlib.Core.Bool.{Bool, true, false, not, _&&_, _||_, false≢true, and-false, or-assoc}
 use mathlib.Core.List.{List}
 use mathlib.Core.Logic.{⊎-elim}
+use native.Mathlib.Nat.{mul-one, mul-zero}
 use native.Mathlib.Omega.{arith}
 use lib.Dec.{ltb, leb, eqb}
+use mir.Val.{boolByte}
 use lib.ListN.{getD}
 use borrow.Author.Tests.{ne-eqb, eqb-true, leb-true, le-leb, not-false}
+use Rattle.basics.specs.Choice.{pick}
 use Rattle.basics.specs.Below.{anyBelow}
 use Rattle.basics.proofs.Below.{any-not, any-same, any-never, any-split}
-use Rattle.basics.proofs.Choice.{bool-cases, lt-or-le, eq-or-ne, and-left, and-right, and-both, or-cases, or-none, or-neither}
+use Rattle.basics.proofs.Choice.{pick-either, bool-cases, lt-or-le, eq-or-ne, and-left, and-right, and-both, or-cases, or-none, or-neither}
 use Rattle.address.specs.Boards.{bytesOf}
 use Rattle.address.specs.Places.{placeOf, blockOf}
 use Rattle.address.proofs.Laws.{place-left, place-service, place-right}
@@ -20,7 +23,7 @@ use Rattle.cell.specs.Cells.{isQuadrichrome}
 use Rattle.page.specs.Codes.{codeOf}
 use Rattle.page.specs.Inputs.{flashes}
 use Rattle.asking.specs.declared.key.Keys.{Keys}
-use Rattle.asking.specs.HowAsked.{keysHigh, isSource, showsCharacter, fromBlock, keyed, blinks, codeFrom, characterAt, keyedAt}
+use Rattle.asking.specs.HowAsked.{keysHigh, isSource, showsCharacter, fromBlock, keyed, blinks, codeFrom, flashAt, blinkAt, characterAt, keyedAt}
 use Rattle.page.proofs.Stretches.{stretch-place, bichrome-test, row-stretches}
 use Rattle.asking.proofs.Tests.{or-swap}
 
@@ -41,9 +44,15 @@ module _ (code : List ℕ) where
   unfolding blinks
   blink-test a e = rw e
 
-  pub character-test : (c b t : ℕ) → c ≡ getD code 0 0 → b ≡ getD code 1 0 → (eqb (c % 128) t && leb 128 b) ≡ showsCharacter t code
+  -- of the B of a cell with the character, and of none, bit 7 is asked
+  pub character-test :
+      (c b t byte : ℕ) → c ≡ getD code 0 0 → b ≡ getD code 1 0 → byte ≡ pick (eqb (c % 128) t) b 0 → leb 128 byte ≡ showsCharacter t code
   unfolding showsCharacter
-  character-test c b t e f = rw (e, f)
+  character-test c b t byte e f g = ap (leb 128) g ∙ high (eqb (c % 128) t) ∙ rw (e, f)
+    where
+      high : (fits : Bool) → leb 128 (pick fits b 0) ≡ (fits && leb 128 b)
+      high true = refl
+      high false = refl
 
   pub keyed-test :
       (c b : ℕ) (keys : Keys) → c ≡ getD code 0 0 → b ≡ getD code 1 0
@@ -59,7 +68,15 @@ module _ (code : List ℕ) where
   unfolding blinks flashes
   still-test e = ap (λ (t : Bool). not (isQuadrichrome (getD code 1 0)) && t) e ∙ and-false (not (isQuadrichrome (getD code 1 0)))
 
--- the bytes of a stretch that may go over two rows
+-- a byte where it fits, by a product
+pub taken-made : (fits : Bool) (byte : ℕ) → byte * boolByte fits ≡ pick fits byte 0
+taken-made true byte = mul-one byte
+taken-made false byte = mul-zero byte
+
+pub taken-small : (fits : Bool) (byte : ℕ) → byte < 256 → byte * boolByte fits < 256
+taken-small fits byte l = rw (taken-made fits byte) (pick-either (λ (v : ℕ). v < 256) fits byte 0 l (omega arith))
+
+-- the bytes of a stretch that may go over several rows
 module _ (m : List ℕ) (z y first i start : ℕ) where
   pub from-c : start ≡ placeOf first y (blockOf z 0) → getD m (start + i) 0 ≡ getD (codeFrom m z y first i) 0 0
   unfolding codeFrom
@@ -68,6 +85,10 @@ module _ (m : List ℕ) (z y first i start : ℕ) where
   pub from-b : start ≡ placeOf first y (blockOf z 1) → getD m (start + i) 0 ≡ getD (codeFrom m z y first i) 1 0
   unfolding codeFrom
   from-b e = rw e
+
+  pub from-a : start ≡ placeOf first y (blockOf z 2) → getD m (start + i) 0 ≡ getD (codeFrom m z y first i) 2 0
+  unfolding codeFrom
+  from-a e = rw e
 
 pub from-fits : (blocks first n y z k start : ℕ) → start ≡ placeOf first y (blockOf z k) → blockOf z k < blocks → placeOf first y 0 + n ≤ 1024 → start + n ≤ bytesOf blocks
 from-fits blocks first n y z k start e hz h = omega (arith, place-within first y (blockOf z k))
@@ -80,15 +101,29 @@ pub right-fits : (y : ℕ) → y < 32 → placeOf 32 y 0 + 8 ≤ 1024
 right-fits y h =
     ⊎-elim (λ q. omega (arith, place-service 32 y 0 (omega arith) q)) (λ q. omega (arith, place-right 32 y 0 (omega arith) q)) (eq-or-ne y 0)
 
--- and so have two rows that follow on
-module _ (y : ℕ) (low : 8 ≤ y) (high : y < 31) where
-  pub lefts-fit : placeOf 0 y 0 + 64 ≤ 1024
+-- and so have n rows that follow on
+module _ (y n : ℕ) (high : y + n ≤ 32) where
+  pub lefts-fit : placeOf 0 y 0 + 32 * n ≤ 1024
   lefts-fit = omega (arith, place-left 0 y 0 (omega arith))
 
-  pub rights-fit : placeOf 32 y 0 + 16 ≤ 1024
-  rights-fit = omega (arith, place-right 32 y 0 (omega arith) (λ e. omega arith))
+  pub rights-fit : 8 ≤ y → placeOf 32 y 0 + 8 * n ≤ 1024
+  rights-fit low = omega (arith, place-right 32 y 0 (omega arith) (λ e. omega arith))
 
--- the row with the next Y follows on
+-- the service row is one stretch
+pub service-fits : placeOf 0 0 0 + 40 ≤ 1024
+service-fits = omega (arith, place-left 0 0 0 (omega arith))
+
+pub service-code : (m : List ℕ) (z i : ℕ) → i < 40 → codeFrom m z 0 0 i ≡ codeOf m z 0 i
+unfolding codeFrom codeOf
+service-code m z i l = rw (same (blockOf z 0), same (blockOf z 1), same (blockOf z 2))
+  where
+    same : (b : ℕ) → placeOf 0 0 b + i ≡ placeOf i 0 b
+    same b =
+        ⊎-elim
+        (λ q. omega (arith, place-left 0 0 b (omega arith), place-left i 0 b q))
+        (λ q. omega (arith, place-left 0 0 b (omega arith), place-service i 0 b q refl))
+        (lt-or-le i 32)
+
 module _ (m : List ℕ) (z y : ℕ) (g : List ℕ → Bool) where
   pub one-row :
       (left right : Bool) → left ≡ anyBelow (λ i. g (codeFrom m z y 0 i)) 32 → right ≡ anyBelow (λ i. g (codeFrom m z y 32 i)) 8
@@ -98,32 +133,50 @@ module _ (m : List ℕ) (z y : ℕ) (g : List ℕ → Bool) where
       (p ∙ any-same _ _ 32 (λ i l. ap g (stretch-code 0 i (omega arith) (omega arith) m y z)))
       (q ∙ any-same _ _ 8 (λ i l. ap g (stretch-code 32 i (omega arith) (omega arith) m y z)))
 
-  next-left : (i : ℕ) → i < 32 → codeFrom m z y 0 (32 + i) ≡ codeOf m z (y + 1) (0 + i)
+  -- the row k Ys on follows on
+  next-left : (k i : ℕ) → i < 32 → codeFrom m z y 0 (32 * k + i) ≡ codeOf m z (y + k) (0 + i)
   unfolding codeFrom codeOf
-  next-left i l = rw (same (blockOf z 0), same (blockOf z 1), same (blockOf z 2))
+  next-left k i l = rw (same (blockOf z 0), same (blockOf z 1), same (blockOf z 2))
     where
-      same : (b : ℕ) → placeOf 0 y b + (32 + i) ≡ placeOf (0 + i) (y + 1) b
-      same b = omega (arith, place-left 0 y b (omega arith), place-left (0 + i) (y + 1) b (omega arith))
+      same : (b : ℕ) → placeOf 0 y b + (32 * k + i) ≡ placeOf (0 + i) (y + k) b
+      same b = omega (arith, place-left 0 y b (omega arith), place-left (0 + i) (y + k) b (omega arith))
 
-  next-right : (i : ℕ) → i < 8 → 8 ≤ y → codeFrom m z y 32 (8 + i) ≡ codeOf m z (y + 1) (32 + i)
+  next-right : (k i : ℕ) → i < 8 → 8 ≤ y → codeFrom m z y 32 (8 * k + i) ≡ codeOf m z (y + k) (32 + i)
   unfolding codeFrom codeOf
-  next-right i l h = rw (same (blockOf z 0), same (blockOf z 1), same (blockOf z 2))
+  next-right k i l h = rw (same (blockOf z 0), same (blockOf z 1), same (blockOf z 2))
     where
-      same : (b : ℕ) → placeOf 32 y b + (8 + i) ≡ placeOf (32 + i) (y + 1) b
-      same b = omega (arith, place-right 32 y b (omega arith) (λ e. omega arith), place-right (32 + i) (y + 1) b (omega arith) (λ e. omega arith))
+      same : (b : ℕ) → placeOf 32 y b + (8 * k + i) ≡ placeOf (32 + i) (y + k) b
+      same b = omega (arith, place-right 32 y b (omega arith) (λ e. omega arith), place-right (32 + i) (y + k) b (omega arith) (λ e. omega arith))
 
-  pub two-rows :
-      (left right : Bool) → 8 ≤ y → left ≡ anyBelow (λ i. g (codeFrom m z y 0 i)) 64 → right ≡ anyBelow (λ i. g (codeFrom m z y 32 i)) 16
-      → (left || right) ≡ (anyBelow (λ x. g (codeOf m z y x)) 40 || anyBelow (λ x. g (codeOf m z (y + 1) x)) 40)
-  two-rows left right h p q =
-      ap₂ _||_ (p ∙ any-split (λ i. g (codeFrom m z y 0 i)) 32 32) (q ∙ any-split (λ i. g (codeFrom m z y 32 i)) 8 8)
-      ∙ or-swap
-      (anyBelow (λ i. g (codeFrom m z y 0 i)) 32) (anyBelow (λ i. g (codeFrom m z y 0 (32 + i))) 32)
-      (anyBelow (λ i. g (codeFrom m z y 32 i)) 8) (anyBelow (λ i. g (codeFrom m z y 32 (8 + i))) 8)
-      ∙ ap₂ _||_ (one-row _ _ refl refl)
-      (row-stretches (λ x. g (codeOf m z (y + 1) x)) _ _
-      (any-same _ _ 32 (λ i l. ap g (next-left i l)))
-      (any-same _ _ 8 (λ i l. ap g (next-right i l h))))
+  abbrev lefts : ℕ → Bool
+  lefts i = g (codeFrom m z y 0 i)
+
+  abbrev rights : ℕ → Bool
+  rights i = g (codeFrom m z y 32 i)
+
+  abbrev passes : ℕ → Bool
+  passes k = anyBelow (λ x. g (codeOf m z (y + k) x)) 40
+
+  row-passes : (k : ℕ) → 8 ≤ y → (anyBelow (λ i. lefts (32 * k + i)) 32 || anyBelow (λ i. rights (8 * k + i)) 8) ≡ passes k
+  row-passes k h =
+      row-stretches (λ x. g (codeOf m z (y + k) x)) _ _
+      (any-same _ _ 32 (λ i l. ap g (next-left k i l)))
+      (any-same _ _ 8 (λ i l. ap g (next-right k i l h)))
+
+  stretches-pass : (n : ℕ) → 8 ≤ y → (anyBelow lefts (32 * n) || anyBelow rights (8 * n)) ≡ anyBelow passes n
+  unfolding anyBelow
+  stretches-pass zero h = refl
+  stretches-pass (suc n) h =
+      let el : 32 * suc n ≡ 32 * n + 32 = omega arith in
+      let er : 8 * suc n ≡ 8 * n + 8 = omega arith in
+      ap₂ _||_ (ap (anyBelow lefts) el ∙ any-split lefts (32 * n) 32) (ap (anyBelow rights) er ∙ any-split rights (8 * n) 8)
+      ∙ or-swap (anyBelow lefts (32 * n)) (anyBelow (λ i. lefts (32 * n + i)) 32) (anyBelow rights (8 * n)) (anyBelow (λ i. rights (8 * n + i)) 8)
+      ∙ ap₂ _||_ (stretches-pass n h) (row-passes n h)
+
+  -- n rows at once
+  pub several-rows :
+      (n : ℕ) (left right : Bool) → 8 ≤ y → left ≡ anyBelow lefts (32 * n) → right ≡ anyBelow rights (8 * n) → (left || right) ≡ anyBelow passes n
+  several-rows n left right h p q = ap₂ _||_ p q ∙ stretches-pass n h
 
 -- the three stretches of a row in which flashing is asked
 pub three-stretches :
@@ -137,8 +190,11 @@ three-stretches f first second third p q r =
     r
 
 -- where nothing blinks nothing flashes
-pub no-blink : (code : ℕ → List ℕ) (n : ℕ) → anyBelow (λ x. blinks (code x)) n ≡ false → anyBelow (λ x. flashes (code x)) n ≡ false
-no-blink code n e = any-never _ n (λ x l. still-test (code x) (any-not (λ i. blinks (code i)) n x e l))
+pub none-flashes :
+    (m : List ℕ) (z y n : ℕ) (t : Bool) → t ≡ anyBelow (λ k. blinkAt m z (y + k)) n → t ≡ false → (k : ℕ) → k < n → flashAt m z (y + k) ≡ false
+none-flashes m z y n t e off k l =
+    any-never _ 40
+    (λ x h. still-test (codeOf m z (y + k) x) (any-not (λ i. blinks (codeOf m z (y + k) i)) 40 x (any-not (λ i. blinkAt m z (y + i)) n k (sym e ∙ off) l) h))
 
 -- where the keys need not be asked
 module _ (keys : Keys) (high : keysHigh keys ≡ true) where
@@ -190,15 +246,11 @@ module _ (keys : Keys) (high : keysHigh keys ≡ true) where
       unkeyed : (one : List ℕ) → showsCharacter (keys .character) one ≡ false → keyed keys one ≡ false
       unkeyed one off = ⊎-elim (λ t. absurd (false≢true (sym off ∙ keyed-shows one t))) (λ t. t) (bool-cases (keyed keys one))
 
-  -- two rows at once
-  pub neither :
-      (m : List ℕ) (z y : ℕ) (t : Bool) → t ≡ (characterAt m z y (keys .character) || characterAt m z (y + 1) (keys .character)) → t ≡ false
-      → (keyedAt keys m z y ≡ false) × (keyedAt keys m z (y + 1) ≡ false)
-  neither m z y t e off =
-      let none = sym e ∙ off in (
-        sym (no-character (codeOf m z y) 40 (or-neither _ _ none)),
-        sym (no-character (codeOf m z (y + 1)) 40 (or-none (characterAt m z y (keys .character)) _ none)),
-      )
+  -- of several rows
+  pub none-keyed :
+      (m : List ℕ) (z y n : ℕ) (t : Bool) → t ≡ anyBelow (λ k. characterAt m z (y + k) (keys .character)) n → t ≡ false
+      → (k : ℕ) → k < n → keyedAt keys m z (y + k) ≡ false
+  none-keyed m z y n t e off k l = sym (no-character (codeOf m z (y + k)) 40 (any-not (λ i. characterAt m z (y + i) (keys .character)) n k (sym e ∙ off) l))
 
 -- no part of a byte is 255
 module _ (keys : Keys) (code : List ℕ) (none : isSource keys ≡ false) (small : getD code 1 0 < 256) where

@@ -84,7 +84,7 @@ keyed keys code = eqb (getD code 0 0 % 128) (keys .character) && fromBlock keys 
 unfoldable pub blinks : List ℕ → Bool
 blinks code = eqb (getD code 2 0 / 8 % 2) 1
 
--- the three bytes i after those of the cell at X and Y: of another cell of the row, or of the row with the next Y
+-- the three bytes i after those of the cell at X and Y: of another cell of the row, or of a row with one of the next Ys
 unfoldable pub codeFrom : List ℕ → ℕ → ℕ → ℕ → ℕ → List ℕ
 codeFrom m z y x i =
     byteAt m (placeOf x y (blockOf z 0) + i) ∷ byteAt m (placeOf x y (blockOf z 1) + i) ∷ byteAt m (placeOf x y (blockOf z 2) + i) ∷ []
@@ -95,6 +95,9 @@ tallAt m z y = anyBelow (λ x. isTall (codeOf m z y x)) 40
 
 abbrev pub flashAt : List ℕ → ℕ → ℕ → Bool
 flashAt m z y = anyBelow (λ x. flashes (codeOf m z y x)) 40
+
+abbrev pub blinkAt : List ℕ → ℕ → ℕ → Bool
+blinkAt m z y = anyBelow (λ x. blinks (codeOf m z y x)) 40
 
 abbrev pub characterAt : List ℕ → ℕ → ℕ → ℕ → Bool
 characterAt m z y t = anyBelow (λ x. showsCharacter t (codeOf m z y x)) 40

@@ -3,8 +3,9 @@ ghost use mathlib.Core.Path.{_≡_};
 ghost use mathlib.Core.Bool.{true, _||_};
 ghost use Prim.Native.Nat.{_+_, _≤_, _<_};
 ghost use lib.ListN.{length};
+ghost use Rattle.basics.specs.Below.{anyBelow};
 ghost use Rattle.address.specs.Boards.{boardBlocks, memoryBytes};
-ghost use Rattle.asking.specs.HowAsked.{tallAt, flashAt, characterAt, keyedAt, keysHigh};
+ghost use Rattle.asking.specs.HowAsked.{tallAt, flashAt, blinkAt, characterAt, keyedAt, keysHigh};
 use crate::key::Keys;
 use crate::stretch::some_blink;
 use crate::stretch::some_character;
@@ -22,7 +23,7 @@ pub fn has_tall(memory: &[u8], z: u8, y: u8) -> bool
     some_tall(memory, z, y, 32, 8)
 }
 
-// Where a row flashes, a cell on its left does most often. Of the rest A3 is asked first: it is most often clear in all.
+// Where a row flashes, a cell on its left does most often.
 fn has_flash(memory: &[u8], z: u8, y: u8) -> bool
     requires { ⌜ (length (now memory) ≡ memoryBytes) × (z < boardBlocks) × (y < 32) ⌝ }
     ensures { λ r. ⌜ r ≡ flashAt (now (memory .entry)) z y ⌝ }
@@ -30,10 +31,23 @@ fn has_flash(memory: &[u8], z: u8, y: u8) -> bool
     if some_flash(memory, z, y, 0, 16) {
         return true;
     }
-    if some_blink(memory, z, y, 16, 16) | some_blink(memory, z, y, 32, 8) {
-        return some_flash(memory, z, y, 16, 16) | some_flash(memory, z, y, 32, 8);
-    }
-    false
+    some_flash(memory, z, y, 16, 16) | some_flash(memory, z, y, 32, 8)
+}
+
+// The service row, which most often does not flash, at once.
+pub fn service_flashes(memory: &[u8], z: u8) -> bool
+    requires { ⌜ (length (now memory) ≡ memoryBytes) × (z < boardBlocks) ⌝ }
+    ensures { λ r. ⌜ r ≡ flashAt (now (memory .entry)) z 0 ⌝ }
+{
+    some_flash(memory, z, 0, 0, 32) | some_flash(memory, z, 0, 32, 8)
+}
+
+// The rows with this Y and the next three, at once: their bytes stand side by side.
+pub fn near_blinks(memory: &[u8], z: u8, y: u8) -> bool
+    requires { ⌜ (length (now memory) ≡ memoryBytes) × (z < boardBlocks) × (8 ≤ y) × (y < 29) ⌝ }
+    ensures { λ r. ⌜ r ≡ anyBelow (λ k. blinkAt (now (memory .entry)) z (y + k)) 4 ⌝ }
+{
+    some_blink(memory, z, y, 0, 128) | some_blink(memory, z, y, 32, 32)
 }
 
 fn has_character(memory: &[u8], z: u8, y: u8, t: u8) -> bool
@@ -43,10 +57,18 @@ fn has_character(memory: &[u8], z: u8, y: u8, t: u8) -> bool
     some_character(memory, z, y, 0, 32, t) | some_character(memory, z, y, 32, 8, t)
 }
 
-// The rows with this Y and the next, at once: their bytes stand side by side.
+// The service row: its forty bytes in a block stand side by side.
+pub fn service_has(memory: &[u8], z: u8, t: u8) -> bool
+    requires { ⌜ (length (now memory) ≡ memoryBytes) × (z < boardBlocks) ⌝ }
+    ensures { λ r. ⌜ r ≡ characterAt (now (memory .entry)) z 0 t ⌝ }
+{
+    some_character(memory, z, 0, 0, 40, t)
+}
+
+// The rows with this Y and the next, at once.
 pub fn near_has(memory: &[u8], z: u8, y: u8, t: u8) -> bool
     requires { ⌜ (length (now memory) ≡ memoryBytes) × (z < boardBlocks) × (8 ≤ y) × (y < 31) ⌝ }
-    ensures { λ r. ⌜ r ≡ (characterAt (now (memory .entry)) z y t || characterAt (now (memory .entry)) z (y + 1) t) ⌝ }
+    ensures { λ r. ⌜ r ≡ anyBelow (λ k. characterAt (now (memory .entry)) z (y + k) t) 2 ⌝ }
 {
     some_character(memory, z, y, 0, 64, t) | some_character(memory, z, y, 32, 16, t)
 }

@@ -1,9 +1,10 @@
 // Questions about a stretch of cells whose bytes stand side by side in each block of the page: columns 0 to 31 of a row, and 32 to 39;
-// from Y 8 on the row with the next Y follows on, so that a stretch can go over two rows.
+// from Y 8 on the row with the next Y follows on, so that a stretch can go over several rows.
 // Each loop gathers and goes to its end, so that it can be compiled to ask many bytes at once.
 ghost use mathlib.Core.Path.{_≡_};
 ghost use Prim.Native.Nat.{_+_, _%_, _<_, _≤_};
 ghost use lib.ListN.{length};
+ghost use Rattle.basics.specs.Choice.{pick};
 ghost use Rattle.basics.specs.Below.{anyBelow};
 ghost use Rattle.address.specs.Boards.{boardBlocks, memoryBytes};
 ghost use Rattle.address.specs.Places.{placeOf};
@@ -42,10 +43,10 @@ pub fn some_flash(memory: &[u8], z: u8, y: u8, first: u16, n: usize) -> bool
     found
 }
 
-// A cell whose A3 is set, whatever its B is: half the bytes of the question whether one flashes.
+// A cell whose A3 is set, whatever its B is: half the bytes of the question whether one flashes. The stretch may go over several rows.
 pub fn some_blink(memory: &[u8], z: u8, y: u8, first: u16, n: usize) -> bool
-    requires { ⌜ (length (now memory) ≡ memoryBytes) × (z < boardBlocks) × (y < 32) × (first + n ≤ 40) × (first % 32 + n ≤ 32) ⌝ }
-    ensures { λ r. ⌜ r ≡ anyBelow (λ i. blinks (codeOf (now (memory .entry)) z y (first + i))) n ⌝ }
+    requires { ⌜ (length (now memory) ≡ memoryBytes) × (z < boardBlocks) × (placeOf first y 0 + n ≤ 1024) ⌝ }
+    ensures { λ r. ⌜ r ≡ anyBelow (λ i. blinks (codeFrom (now (memory .entry)) z y first i)) n ⌝ }
 {
     let a = start(z, y, first, 2);
     let mut found = false;
@@ -55,18 +56,26 @@ pub fn some_blink(memory: &[u8], z: u8, y: u8, first: u16, n: usize) -> bool
     found
 }
 
-// A cell whose C is the character, and whose B is not that of a cell from the ROM. The stretch may go over two rows.
+// The byte where it fits, and else 0, by a product: of a branch the compiler makes no vectors.
+fn taken(fits: bool, byte: u8) -> u8
+    ensures { λ r. ⌜ r ≡ pick fits byte 0 ⌝ }
+{
+    byte * (fits as u8)
+}
+
+// A cell whose C is the character, and whose B is not that of a cell from the ROM. The stretch may go over several rows. The B bytes of the cells with the
+// character are gathered by their bits, and bit 7 is looked at once, at the end.
 pub fn some_character(memory: &[u8], z: u8, y: u8, first: u16, n: usize, t: u8) -> bool
     requires { ⌜ (length (now memory) ≡ memoryBytes) × (z < boardBlocks) × (placeOf first y 0 + n ≤ 1024) ⌝ }
     ensures { λ r. ⌜ r ≡ anyBelow (λ i. showsCharacter t (codeFrom (now (memory .entry)) z y first i)) n ⌝ }
 {
     let c = start(z, y, first, 0);
     let b = start(z, y, first, 1);
-    let mut found = false;
+    let mut gathered = 0u8;
     for i in 0..n {
-        found = found | ((memory[c + i] % 128 == t) & (memory[b + i] >= 128));
+        gathered = gathered | taken(memory[c + i] % 128 == t, memory[b + i]);
     }
-    found
+    gathered >= 128
 }
 
 // A cell that the keys fit.

@@ -1,15 +1,17 @@
--- Laws of bits: those of a number that is made of its bits, and the fields of a byte.
+-- Laws of bits: those of a number that is made of its bits, the fields of a byte, and the bits of two numbers together.
 -- Assumes nothing.
-use Prim.Native.Nat.{ℕ, zero, suc, _+_, _-_, _*_, _/_, _%_, _^_, _<_}
+use Prim.Native.Nat.{ℕ, zero, suc, _+_, _-_, _*_, _/_, _%_, _^_, _<_, _≤_}
 use mathlib.Core.Path.{_≡_, refl, sym, ap, _∙_}
-use mathlib.Core.Bool.{Bool, true, false}
+use mathlib.Core.Bool.{Bool, true, false, _||_}
 use mathlib.Core.Logic.{⊎-elim}
 use native.Mathlib.Nat.{pow-suc, div-eq-of-lt, add-mul-div-left, add-mul-mod-self-left, add-div-right, mul-one, mul-zero, add-zero}
 use native.Mathlib.Omega.{arith}
-use lib.Dec.{eqb}
+use lib.Dec.{eqb, leb}
+use lib.Bits.{bitOr, or-add-and, or-lt, and-le-l, and-le-r}
 use lib.Pow.{pow-pos, pow-add}
 use Rattle.basics.specs.Bits.{isSet, bits, fromBits}
-use Rattle.basics.proofs.Choice.{eq-or-ne}
+use borrow.Author.Tests.{le-leb, lt-leb}
+use Rattle.basics.proofs.Choice.{eq-or-ne, lt-or-le, or-left, or-right}
 use Rattle.basics.proofs.Computed.{agree, agree-test2}
 
 module _ (f : ℕ → Bool) where
@@ -75,3 +77,18 @@ field-low = agree-test2 (λ s i. isSet 0 (bits (2 * i) 2 s)) (λ s i. isSet (2 *
 
 pub field-high : (s i : ℕ) → s < 256 → i < 4 → isSet 1 (bits (2 * i) 2 s) ≡ isSet (2 * i + 1) s
 field-high = agree-test2 (λ s i. isSet 1 (bits (2 * i) 2 s)) (λ s i. isSet (2 * i + 1) s) 256 4 tt
+
+-- the bits of two numbers reach a power of two where those of one do
+pub or-reaches : (k a b : ℕ) → leb (2 ^ k) (bitOr a b) ≡ (leb (2 ^ k) a || leb (2 ^ k) b)
+or-reaches k a b =
+    ⊎-elim
+    (λ (p : a < 2 ^ k).
+    ⊎-elim
+    (λ (q : b < 2 ^ k). lt-leb (2 ^ k) (bitOr a b) (or-lt k a b p q) ∙ sym (rw (lt-leb (2 ^ k) a p, lt-leb (2 ^ k) b q)))
+    (λ (q : 2 ^ k ≤ b). high (omega (arith, or-add-and a b, and-le-l a b)) ∙ sym (or-right (leb (2 ^ k) a) _ (le-leb (2 ^ k) b q)))
+    (lt-or-le b (2 ^ k)))
+    (λ (p : 2 ^ k ≤ a). high (omega (arith, or-add-and a b, and-le-r a b)) ∙ sym (or-left _ (leb (2 ^ k) b) (le-leb (2 ^ k) a p)))
+    (lt-or-le a (2 ^ k))
+  where
+    high : 2 ^ k ≤ bitOr a b → leb (2 ^ k) (bitOr a b) ≡ true
+    high h = le-leb (2 ^ k) (bitOr a b) h

@@ -3,3 +3,4 @@ pub mod Falls
 pub mod Loops
 pub mod Lists
 pub mod Changes
+pub mod Quiet

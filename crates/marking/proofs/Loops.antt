@@ -1,7 +1,7 @@
--- The loops that mark: what was asked after each turn, the turn and the end. One goes down the rows, one over the rows with two Ys, one over
--- pairs of Ys, and one down from the row that has a byte among its own.
+-- The loops that mark: what was asked after each turn, the turn and the end. One goes over the rows of a group, one over the groups, and one down from the
+-- row that has a byte among its own.
 -- Assumes nothing.
-use Prim.Native.Nat.{ℕ, _+_, _≤_, _<_}
+use Prim.Native.Nat.{ℕ, _+_, _-_, _≤_, _<_}
 use mathlib.Core.Path.{_≡_, refl, sym, ap, ap₂, _∙_}
 use mathlib.Core.Bool.{Bool, true, false, not, _&&_, _||_, false≢true, and-false, or-false}
 use mathlib.Core.List.{List}
@@ -11,6 +11,8 @@ use lib.Dec.{eqb, ltb, leb}
 use borrow.Author.Tests.{eq-eqb, ne-eqb, lt-ltb, le-ltb, le-leb, lt-leb, not-false}
 use lib.ListN.{length, set}
 use Rattle.basics.proofs.Choice.{or-right, lt-or-le, eq-or-ne}
+use Rattle.address.specs.Rows.{rowY}
+use Rattle.address.proofs.Laws.{row-service, row-from-one}
 use Rattle.page.specs.Marks.{isMarked, markedToo}
 use Rattle.marking.specs.HowMarked.{inGroup, fallsTo}
 use Rattle.marking.proofs.Falls.{falls-own, falls-above, falls-below}
@@ -33,9 +35,6 @@ or-same false = refl
 module _ (f : ℕ → Bool) (marks : List Bool) where
   abbrev pub below : ℕ → ℕ → Bool
   below r i = ltb i r && f i
-
-  pub below-start : length marks ≡ 25 → marks ≡ markedToo (below 0) marks
-  below-start h = marked-none (below 0) marks h (λ i l. ap (λ (t : Bool). t && f i) (le-ltb i 0 (omega arith)))
 
   below-step : (r i : ℕ) → (below r i || (eqb i r && f r)) ≡ below (r + 1) i
   below-step r i =
@@ -70,7 +69,7 @@ module _ (f : ℕ → Bool) (marks : List Bool) where
       (λ (h : r ≤ i). ap (λ (t : Bool). t && f i) (le-ltb i r h) ∙ sym (none i l h))
       (lt-or-le i r))
 
--- a loop over two Ys, which asks the row that has each
+-- a loop over the numbers of a group, which asks the row that has each: a Y, or the row's own
 module _ (f : ℕ → Bool) (marks : List Bool) (y : ℕ → ℕ) (first : ℕ) where
   abbrev pub between : ℕ → ℕ → Bool
   between end i = inGroup first end (y i) && f (y i)
@@ -114,83 +113,103 @@ module _ (f : ℕ → Bool) (marks : List Bool) (y : ℕ → ℕ) (first : ℕ) 
       marked-set (between end) marks (between (end + 1)) after r new (f end) d l (en ∙ ap (λ (b : Bool). isMarked after r || b) et)
       (λ i k. ap (λ (b : Bool). between end i || (b && f end)) (at i k) ∙ between-step end (y i) h)
 
--- a loop over pairs of Ys: the rows whose Y is below end were asked
+-- row 0, by itself
+pub first-marked :
+    (marks : List Bool) (new t : Bool) → length marks ≡ 25 → new ≡ (isMarked marks 0 || t) → set marks 0 new ≡ markedToo (λ i. eqb i 0 && t) marks
+first-marked marks new t h e =
+    marked-set (λ i. false) marks (λ i. eqb i 0 && t) marks 0 new t (marked-none (λ i. false) marks h (λ i l. refl)) (omega arith) e (λ i l. refl)
+
+-- a loop over groups, by a number that each row has, its Y or its own: the rows whose number is below end were asked
 module _ (f : ℕ → Bool) (marks : List Bool) (y : ℕ → ℕ) where
   abbrev pub upTo : ℕ → ℕ → Bool
   upTo end i = ltb (y i) end && f (y i)
 
-  -- row 0 first
-  pub up-start :
-      (new t : Bool) → length marks ≡ 25 → t ≡ f 0 → new ≡ (isMarked marks 0 || t) → y 0 ≡ 0 → ((i : ℕ) → (i ≡ 0 → ⊥) → 8 ≤ y i)
-      → set marks 0 new ≡ markedToo (upTo 8) marks
-  up-start new t h et en e0 e8 =
-      marked-set (λ i. false) marks (upTo 8) marks 0 new (f 0) (marked-none (λ i. false) marks h (λ i l. refl)) (omega arith)
-      (en ∙ ap (λ (b : Bool). isMarked marks 0 || b) et)
-      (λ i l.
+  -- row 0 first; the others have numbers from low on
+  up-start :
+      (low : ℕ) (first : List Bool) → first ≡ markedToo (λ i. eqb i 0 && f 0) marks → 0 < low → y 0 ≡ 0 → ((i : ℕ) → (i ≡ 0 → ⊥) → low ≤ y i)
+      → first ≡ markedToo (upTo low) marks
+  up-start low first d l e0 en =
+      d
+      ∙ marked-same (λ i. eqb i 0 && f 0) marks (upTo low)
+      (λ i h.
       ⊎-elim
       (λ (q : i ≡ 0).
       let z : y i ≡ 0 = ap y q ∙ e0 in
       ap (λ (b : Bool). b && f 0) (eq-eqb i 0 q)
       ∙ ap f (sym z)
-      ∙ sym (ap (λ (b : Bool). b && f (y i)) (lt-ltb (y i) 8 (omega arith))))
+      ∙ sym (ap (λ (b : Bool). b && f (y i)) (lt-ltb (y i) low (omega arith))))
       (λ (q : i ≡ 0 → ⊥).
-      ap (λ (b : Bool). b && f 0) (ne-eqb i 0 q) ∙ sym (ap (λ (b : Bool). b && f (y i)) (le-ltb (y i) 8 (e8 i q))))
+      ap (λ (b : Bool). b && f 0) (ne-eqb i 0 q) ∙ sym (ap (λ (b : Bool). b && f (y i)) (le-ltb (y i) low (en i q))))
       (eq-or-ne i 0))
 
   -- the loop begins with row 0 asked
-  pub up-begins : (first : List Bool) → first ≡ markedToo (upTo 8) marks → first ≡ markedToo (upTo 8) first
-  up-begins first d = d ∙ sym (marked-again (upTo 8) (upTo 8) marks first d (λ i l. or-same (upTo 8 i)))
+  module _ (low : ℕ) (first : List Bool) (begun : first ≡ markedToo (upTo low) marks) where
+    pub up-begins : first ≡ markedToo (upTo low) first
+    up-begins = begun ∙ sym (marked-again (upTo low) (upTo low) marks first begun (λ i l. or-same (upTo low i)))
 
-  pub up-ends : (first after : List Bool) → first ≡ markedToo (upTo 8) marks → after ≡ markedToo (λ i. f (y i)) first → after ≡ markedToo (λ i. f (y i)) marks
-  up-ends first after d e = e ∙ marked-again (upTo 8) (λ i. f (y i)) marks first d (λ i l. absorbed (ltb (y i) 8) (f (y i)))
+    pub up-ends : (after : List Bool) → after ≡ markedToo (λ i. f (y i)) first → after ≡ markedToo (λ i. f (y i)) marks
+    up-ends after e = e ∙ marked-again (upTo low) (λ i. f (y i)) marks first begun (λ i l. absorbed (ltb (y i) low) (f (y i)))
 
-  join : (end k : ℕ) → ((ltb k end && f k) || (inGroup end (end + 2) k && f k)) ≡ (ltb k (end + 2) && f k)
-  unfolding inGroup
-  join end k =
-      ⊎-elim
-      (λ (l : k < end).
-      ap₂ _||_ (ap (λ (t : Bool). t && f k) (lt-ltb k end l)) (ap (λ (t : Bool). (t && ltb k (end + 2)) && f k) (lt-leb end k l))
-      ∙ or-false (f k)
-      ∙ sym (ap (λ (t : Bool). t && f k) (lt-ltb k (end + 2) (omega arith))))
-      (λ (h : end ≤ k).
-      ap₂ _||_ (ap (λ (t : Bool). t && f k) (le-ltb k end h)) (ap (λ (t : Bool). (t && ltb k (end + 2)) && f k) (le-leb end k h)))
-      (lt-or-le k end)
+  -- a group of n
+  module _ (n end : ℕ) where
+    join : (k : ℕ) → ((ltb k end && f k) || (inGroup end (end + n) k && f k)) ≡ (ltb k (end + n) && f k)
+    unfolding inGroup
+    join k =
+        ⊎-elim
+        (λ (l : k < end).
+        ap₂ _||_ (ap (λ (t : Bool). t && f k) (lt-ltb k end l)) (ap (λ (t : Bool). (t && ltb k (end + n)) && f k) (lt-leb end k l))
+        ∙ or-false (f k)
+        ∙ sym (ap (λ (t : Bool). t && f k) (lt-ltb k (end + n) (omega arith))))
+        (λ (h : end ≤ k).
+        ap₂ _||_ (ap (λ (t : Bool). t && f k) (le-ltb k end h)) (ap (λ (t : Bool). (t && ltb k (end + n)) && f k) (le-leb end k h)))
+        (lt-or-le k end)
 
-  -- two rows are asked
-  pub up-asked :
-      (before after : List Bool) (end next : ℕ) → next ≡ end + 2 → before ≡ markedToo (upTo end) marks
-      → after ≡ markedToo (λ i. inGroup end (end + 2) (y i) && f (y i)) before → after ≡ markedToo (upTo next) marks
-  up-asked before after end next en d e =
-      e
-      ∙ ap (markedToo (λ i. inGroup end (end + 2) (y i) && f (y i))) d
-      ∙ marked-twice (upTo end) marks (λ i. inGroup end (end + 2) (y i) && f (y i)) (upTo next)
-      (λ i l. join end (y i) ∙ ap (λ (k : ℕ). upTo k i) (sym en))
+    -- it is asked
+    pub up-asked :
+        (before after : List Bool) (next : ℕ) → next ≡ end + n → before ≡ markedToo (upTo end) marks
+        → after ≡ markedToo (λ i. inGroup end (end + n) (y i) && f (y i)) before → after ≡ markedToo (upTo next) marks
+    up-asked before after next en d e =
+        e
+        ∙ ap (markedToo (λ i. inGroup end (end + n) (y i) && f (y i))) d
+        ∙ marked-twice (upTo end) marks (λ i. inGroup end (end + n) (y i) && f (y i)) (upTo next)
+        (λ i l. join (y i) ∙ ap (λ (k : ℕ). upTo k i) (sym en))
 
-  -- two rows are left
-  pub up-left :
-      (before : List Bool) (end next : ℕ) → next ≡ end + 2 → before ≡ markedToo (upTo end) marks → f end ≡ false → f (end + 1) ≡ false
-      → before ≡ markedToo (upTo next) marks
-  up-left before end next en d p q = d ∙ marked-same (upTo end) marks (upTo next) (λ i l. step (y i) ∙ ap (λ (k : ℕ). upTo k i) (sym en))
-    where
-      off : (k : ℕ) → f k ≡ false → (ltb k (end + 2) && f k) ≡ false
-      off k e = ap (λ (t : Bool). ltb k (end + 2) && t) e ∙ and-false (ltb k (end + 2))
+    -- it is left, since none of it passes
+    pub up-left :
+        (before : List Bool) (next : ℕ) → next ≡ end + n → before ≡ markedToo (upTo end) marks → ((k : ℕ) → k < n → f (end + k) ≡ false)
+        → before ≡ markedToo (upTo next) marks
+    up-left before next en d none = d ∙ marked-same (upTo end) marks (upTo next) (λ i l. step (y i) ∙ ap (λ (k : ℕ). upTo k i) (sym en))
+      where
+        off : (k : ℕ) → end ≤ k → k < end + n → f k ≡ false
+        off k h l = let e : k ≡ end + (k - end) = omega arith in ap f e ∙ none (k - end) (omega arith)
 
-      step : (k : ℕ) → (ltb k end && f k) ≡ (ltb k (end + 2) && f k)
-      step k =
-          ⊎-elim
-          (λ (l : k < end). ap (λ (t : Bool). t && f k) (lt-ltb k end l ∙ sym (lt-ltb k (end + 2) (omega arith))))
-          (λ (h : end ≤ k).
-          ap (λ (t : Bool). t && f k) (le-ltb k end h)
-          ∙ ⊎-elim (λ (e : k ≡ end). sym (off k (ap f e ∙ p)))
-          (λ (n : k ≡ end → ⊥).
-          ⊎-elim (λ (e : k ≡ end + 1). sym (off k (ap f e ∙ q)))
-          (λ (n′ : k ≡ end + 1 → ⊥). sym (ap (λ (t : Bool). t && f k) (le-ltb k (end + 2) (omega arith))))
-          (eq-or-ne k (end + 1)))
-          (eq-or-ne k end))
-          (lt-or-le k end)
+        step : (k : ℕ) → (ltb k end && f k) ≡ (ltb k (end + n) && f k)
+        step k =
+            ⊎-elim
+            (λ (l : k < end). ap (λ (t : Bool). t && f k) (lt-ltb k end l ∙ sym (lt-ltb k (end + n) (omega arith))))
+            (λ (h : end ≤ k).
+            ap (λ (t : Bool). t && f k) (le-ltb k end h)
+            ∙ ⊎-elim
+            (λ (l : k < end + n). sym (ap (λ (t : Bool). ltb k (end + n) && t) (off k h l) ∙ and-false (ltb k (end + n))))
+            (λ (l : end + n ≤ k). sym (ap (λ (t : Bool). t && f k) (le-ltb k (end + n) l)))
+            (lt-or-le k (end + n)))
+            (lt-or-le k end)
 
-  pub up-end : (after : List Bool) (end : ℕ) → after ≡ markedToo (upTo end) marks → ((i : ℕ) → y i < end) → after ≡ markedToo (λ i. f (y i)) marks
-  up-end after end d h = d ∙ marked-same (upTo end) marks (λ i. f (y i)) (λ i l. ap (λ (t : Bool). t && f (y i)) (lt-ltb (y i) end (h i)))
+  pub up-end : (after : List Bool) (end : ℕ) → after ≡ markedToo (upTo end) marks → ((i : ℕ) → i < 25 → y i < end) → after ≡ markedToo (λ i. f (y i)) marks
+  up-end after end d h = d ∙ marked-same (upTo end) marks (λ i. f (y i)) (λ i l. ap (λ (t : Bool). t && f (y i)) (lt-ltb (y i) end (h i l)))
+
+-- by their Ys, from 8 on
+pub begun-by-y :
+    (f : ℕ → Bool) (marks first : List Bool) (yor : ℕ) → first ≡ markedToo (λ i. eqb i 0 && f 0) marks → first ≡ markedToo (upTo f marks (rowY yor) 8) marks
+begun-by-y f marks first yor d =
+    up-start f marks (rowY yor) 8 first d (omega arith) (row-service yor 0 refl) (λ i n. omega (arith, row-from-one yor i n))
+
+-- by their own numbers, from 1 on
+pub begun-by-row :
+    (f : ℕ → Bool) (marks : List Bool) (new t : Bool) → length marks ≡ 25 → t ≡ f 0 → new ≡ (isMarked marks 0 || t)
+    → set marks 0 new ≡ markedToo (upTo f marks (λ i. i) 1) marks
+begun-by-row f marks new t h e n =
+    up-start f marks (λ i. i) 1 _ (first-marked marks new (f 0) h (n ∙ ap (λ (b : Bool). isMarked marks 0 || b) e)) (omega arith) refl (λ i q. omega arith)
 
 -- the rows that a byte of a row's own reaches
 module _ (tall : ℕ → Bool) (row : ℕ) (marks : List Bool) where

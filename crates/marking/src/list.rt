@@ -3,6 +3,7 @@
 ghost use mathlib.Core.Path.{_≡_};
 ghost use mathlib.Core.Bool.{true, _&&_};
 ghost use Prim.Native.Nat.{_+_, _<_, _≤_};
+ghost use lib.Dec.{eqb};
 ghost use lib.ListN.{length};
 ghost use Rattle.address.specs.Boards.{boardBlocks, memoryBytes};
 ghost use Rattle.address.specs.Triples.{onPage};
@@ -19,6 +20,7 @@ use asking::own::row_at;
 use asking::row::has_tall;
 use asking::row::is_marked_or_keyed;
 use asking::row::near_has;
+use asking::row::service_has;
 use shown::Shown;
 
 // The row that has the byte among its own, and those below it down to the first without a cell of double height.
@@ -60,14 +62,24 @@ fn group_marks(marks: &mut [bool; 25], memory: &[u8], z: u8, yor: u8, first: u8,
     }
 }
 
+// The service row, where it is marked or the keys fit it. Its mark is not asked before: most often it does not have the character.
+fn service_marks(marks: &mut [bool; 25], memory: &[u8], z: u8, keys: Keys)
+    requires { ⌜ (length (now marks) ≡ 25) × (length (now memory) ≡ memoryBytes) × (z < boardBlocks) × (keysHigh keys ≡ true) ⌝ }
+    ensures { λ _. ⌜ now (marks .exit) ≡ markedToo (λ r. eqb r 0 && keyedAt keys (now (memory .entry)) z 0) (now (marks .entry)) ⌝ }
+{
+    if service_has(memory, z, keys.character) {
+        let marked = marks[0];
+        marks[0] = is_marked_or_keyed(memory, z, 0, keys, marked);
+    }
+}
+
 // The rows that the keys fit, by Y: two rows of which neither has the character are left by one look at both. The service row, at Y 0, is asked
 // by itself, since no row follows on it.
 fn slice_marks(marks: &mut [bool; 25], memory: &[u8], z: u8, yor: u8, keys: Keys)
     requires { ⌜ (length (now marks) ≡ 25) × (length (now memory) ≡ memoryBytes) × (z < boardBlocks) × (keysHigh keys ≡ true) ⌝ }
     ensures { λ _. ⌜ now (marks .exit) ≡ markedToo (λ r. keyedAt keys (now (memory .entry)) z (rowY yor r)) (now (marks .entry)) ⌝ }
 {
-    let service = marks[0];
-    marks[0] = is_marked_or_keyed(memory, z, 0, keys, service);
+    service_marks(marks, memory, z, keys);
     for g in 0u8..12 {
         let y = 8 + 2 * g;
         if near_has(memory, z, y, keys.character) {

@@ -3,17 +3,15 @@ use Prim.Native.Nat.{_+_, _≤_, _-_}
 use mathlib.Core.Path.{_≡_, refl}
 use native.Mathlib.Omega.{arith}
 use Rattle.basics.specs.Below.{anyBelow}
-use Rattle.page.specs.Codes.{codeOf}
 use Rattle.basics.proofs.Below.{gathered, gathered-end}
-use Rattle.asking.specs.HowAsked.{blinks}
-use Rattle.page.proofs.Stretches.{stretch-fits, stretch-a}
-use Rattle.asking.proofs.Rows.{blink-test}
+use Rattle.asking.specs.HowAsked.{blinks, codeFrom}
+use Rattle.asking.proofs.Rows.{from-fits, from-a, blink-test}
 use borrow.Author.Needs.{needs}
 use Rattle.asking.proofs.stretch.some_blink.Statement.{statement}
 use Rattle.asking.proofs.stretch.some_blink.Tie as tie
 
 abbrev Inv-loop : tie.InvT-loop
-Inv-loop memory z y first n a found₀ i₀ found i = (i ≤ n) × (a + n ≤ memoryBytes) × (found ≡ anyBelow (λ j. blinks (codeOf memory z y (first + j))) i)
+Inv-loop memory z y first n a found₀ i₀ found i = (i ≤ n) × (a + n ≤ memoryBytes) × (found ≡ anyBelow (λ j. blinks (codeFrom memory z y first j)) i)
 
 abbrev μ-loop : tie.MeasureT-loop
 μ-loop memory z y first n a found₀ i₀ found i = n - i
@@ -24,7 +22,7 @@ start-requires c κs = search needs
 loop-holds : tie.Need-loop-holds Inv-loop μ-loop
 unfolding anyBelow
 loop-holds c = let p = c .before .before .pre in
-    (omega arith, stretch-fits boardBlocks _ _ _ _ 2 _ (c .start .ensures) (omega arith) (p .2) (p .3) (p .4), refl)
+    (omega arith, from-fits boardBlocks _ _ _ _ 2 _ (c .start .ensures) (omega arith) (p .2), refl)
 
 add-found : tie.Need-add-found Inv-loop μ-loop
 add-found c = search needs
@@ -41,8 +39,7 @@ loop-less c = omega arith
 loop-again : tie.Need-loop-again Inv-loop μ-loop
 loop-again c = let a = c .before .before in
     let l = a .loop in
-    let s = a .before .before .before .args in
-    (omega arith, l .inv .1, gathered _ _ _ _ (l .inv .2) (blink-test _ _ (stretch-a (s .first) (l .i) (omega arith) (omega arith) _ _ _ _ (a .before .start .ensures))))
+    (omega arith, l .inv .1, gathered _ _ _ _ (l .inv .2) (blink-test _ _ (from-a _ _ _ _ _ _ (a .before .start .ensures))))
 
 returns : tie.Need-returns Inv-loop μ-loop
 returns c = let l = c .before .loop in gathered-end _ _ _ _ (l .inv .2) (l .inv .0) (c .loop-test .left)
