@@ -1,4 +1,4 @@
-// Questions about a row of the page at Y, whose first block is Z: each is asked of the row's two stretches.
+// Questions about a row of the page at Y, whose first block is Z, and about rows that follow on: each is asked of their stretches, left and right.
 ghost use mathlib.Core.Path.{_≡_};
 ghost use mathlib.Core.Bool.{true, _||_};
 ghost use Prim.Native.Nat.{_+_, _≤_, _<_};
@@ -34,7 +34,7 @@ fn has_flash(memory: &[u8], z: u8, y: u8) -> bool
     some_flash(memory, z, y, 16, 16) | some_flash(memory, z, y, 32, 8)
 }
 
-// The service row, which most often does not flash, at once.
+// The service row has a question of its own, so that the other rows' has one caller and is compiled into its loop.
 pub fn service_flashes(memory: &[u8], z: u8) -> bool
     requires { ⌜ (length (now memory) ≡ memoryBytes) × (z < boardBlocks) ⌝ }
     ensures { λ r. ⌜ r ≡ flashAt (now (memory .entry)) z 0 ⌝ }
@@ -42,7 +42,7 @@ pub fn service_flashes(memory: &[u8], z: u8) -> bool
     some_flash(memory, z, 0, 0, 32) | some_flash(memory, z, 0, 32, 8)
 }
 
-// The rows with this Y and the next three, at once: their bytes stand side by side.
+// A cell of the rows with this Y and the next three has its A3 set: their bytes stand side by side, so that one look does for four rows.
 pub fn near_blinks(memory: &[u8], z: u8, y: u8) -> bool
     requires { ⌜ (length (now memory) ≡ memoryBytes) × (z < boardBlocks) × (8 ≤ y) × (y < 29) ⌝ }
     ensures { λ r. ⌜ r ≡ anyBelow (λ k. blinkAt (now (memory .entry)) z (y + k)) 4 ⌝ }
@@ -65,7 +65,7 @@ pub fn service_has(memory: &[u8], z: u8, t: u8) -> bool
     some_character(memory, z, 0, 0, 40, t)
 }
 
-// The rows with this Y and the next, at once.
+// One look for the rows with this Y and the next.
 pub fn near_has(memory: &[u8], z: u8, y: u8, t: u8) -> bool
     requires { ⌜ (length (now memory) ≡ memoryBytes) × (z < boardBlocks) × (8 ≤ y) × (y < 31) ⌝ }
     ensures { λ r. ⌜ r ≡ anyBelow (λ k. characterAt (now (memory .entry)) z (y + k) t) 2 ⌝ }

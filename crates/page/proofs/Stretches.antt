@@ -18,7 +18,7 @@ use Rattle.address.proofs.Laws.{place-left, place-service, place-right}
 use Rattle.cell.specs.Cells.{isQuadrichrome}
 use Rattle.page.specs.Codes.{codeOf}
 use Rattle.page.specs.Halves.{isTall, isWide, sameCode, goesOn}
-use Rattle.page.specs.HowHalves.{Within, codeFrom, goesOnIn}
+use Rattle.page.specs.HowHalves.{Within, stretchCode, goesOnIn}
 use Rattle.page.specs.declared.stretch.Starts.{Starts}
 
 -- a stretch that crosses from column 31 to column 32 has two starts; another has one
@@ -54,7 +54,7 @@ module _ (first i : ℕ) (column : first + i < 40) (side : first % 32 + i < 32) 
   pub code-from :
       (m : List ℕ) (y z : ℕ) (s : Starts)
       → s .c ≡ placeOf first y (blockOf z 0) → s .b ≡ placeOf first y (blockOf z 1) → s .a ≡ placeOf first y (blockOf z 2)
-      → codeFrom m s i ≡ codeOf m z y (first + i)
+      → stretchCode m s i ≡ codeOf m z y (first + i)
   unfolding codeOf
   code-from m y z s ec eb ea = rw (byte m y z (s .c) 0 ec, byte m y z (s .b) 1 eb, byte m y z (s .a) 2 ea)
 
@@ -107,7 +107,7 @@ pub goes-on-test :
     → ((ltb (getD m (here .b + i) 0) 192 && eqb (getD m (here .b + i) 0 / 2 % 2) 1)
     && (eqb (getD m (here .c + i) 0) (getD m (above .c + i) 0)
     && (eqb (getD m (here .b + i) 0) (getD m (above .b + i) 0) && eqb (getD m (here .a + i) 0) (getD m (above .a + i) 0))))
-    ≡ goesOn (isTall (codeFrom m here i)) (codeFrom m here i) (codeFrom m above i)
+    ≡ goesOn (isTall (stretchCode m here i)) (stretchCode m here i) (stretchCode m above i)
 unfolding sameCode
 goes-on-test m here above i h =
     ap
@@ -115,14 +115,14 @@ goes-on-test m here above i h =
     t
     && (eqb (getD m (here .c + i) 0) (getD m (above .c + i) 0)
     && (eqb (getD m (here .b + i) 0) (getD m (above .b + i) 0) && eqb (getD m (here .a + i) 0) (getD m (above .a + i) 0))))
-    (tall-test (codeFrom m here i) _ h refl)
+    (tall-test (stretchCode m here i) _ h refl)
 
 -- and so does the cell in its column
 pub goes-on-from :
     (first i : ℕ) → first + i < 40 → first % 32 + i < 32 → (m : List ℕ) (y u z : ℕ) (here above : Starts)
     → (here .c ≡ placeOf first y (blockOf z 0)) × (here .b ≡ placeOf first y (blockOf z 1)) × (here .a ≡ placeOf first y (blockOf z 2))
     → (above .c ≡ placeOf first u (blockOf z 0)) × (above .b ≡ placeOf first u (blockOf z 1)) × (above .a ≡ placeOf first u (blockOf z 2))
-    → goesOn (isTall (codeFrom m here i)) (codeFrom m here i) (codeFrom m above i) ≡ goesOnIn m z y u (first + i)
+    → goesOn (isTall (stretchCode m here i)) (stretchCode m here i) (stretchCode m above i) ≡ goesOnIn m z y u (first + i)
 goes-on-from first i column side m y u z here above h a =
     rw (code-from first i column side m y z here (h .0) (h .1) (h .2), code-from first i column side m u z above (a .0) (a .1) (a .2))
 

@@ -1,5 +1,5 @@
 -- How the code asks for halves: of the row buffer along a row, of the bytes in memory down a column. Nothing here has to be believed:
--- `right-row` and `lower-next` of proofs/Halves.antt show that it gives the halves of Halves.antt.
+-- `right-row` and `lower-next` of crate halves show that it gives the halves of Halves.antt.
 -- Assumes nothing.
 use Prim.Native.Nat.{ℕ, _+_, _-_, _<_, _≤_}
 use mathlib.Core.Path.{_≡_}
@@ -21,8 +21,8 @@ abbrev pub Within : Starts → ℕ → Type 0
 Within s n = (s .c + n ≤ memoryBytes) × (s .b + n ≤ memoryBytes) × (s .a + n ≤ memoryBytes)
 
 -- the three bytes of cell i of a stretch
-abbrev pub codeFrom : List ℕ → Starts → ℕ → List ℕ
-codeFrom m s i = getD m (s .c + i) 0 ∷ getD m (s .b + i) 0 ∷ getD m (s .a + i) 0 ∷ []
+abbrev pub stretchCode : List ℕ → Starts → ℕ → List ℕ
+stretchCode m s i = getD m (s .c + i) 0 ∷ getD m (s .b + i) 0 ∷ getD m (s .a + i) 0 ∷ []
 
 -- a cell of the row at y goes on from the one above it, in the row at u
 abbrev pub goesOnIn : List ℕ → ℕ → ℕ → ℕ → ℕ → Bool

@@ -8,7 +8,7 @@ ghost use Rattle.address.specs.Boards.{boardBlocks, memoryBytes};
 ghost use Rattle.address.specs.Places.{placeOf, blockOf};
 ghost use Rattle.page.specs.Codes.{codeOf};
 ghost use Rattle.page.specs.Halves.{isTall, isWide, goesOn};
-ghost use Rattle.page.specs.HowHalves.{Within, codeFrom, goesOnIn};
+ghost use Rattle.page.specs.HowHalves.{Within, stretchCode, goesOnIn};
 use address::place::block;
 use address::place::place_at;
 
@@ -54,7 +54,7 @@ pub fn some_wide(memory: &[u8], z: u8, y: u8, first: u16, n: usize) -> bool
 // becomes vector instructions.
 pub fn goes_on_at(memory: &[u8], here: Starts, above: Starts, i: usize) -> bool
     requires { ⌜ (length (now memory) ≡ memoryBytes) × Within here (i + 1) × Within above (i + 1) ⌝ }
-    ensures { λ r. ⌜ r ≡ goesOn (isTall (codeFrom (now (memory .entry)) here i)) (codeFrom (now (memory .entry)) here i) (codeFrom (now (memory .entry)) above i) ⌝ }
+    ensures { λ r. ⌜ r ≡ goesOn (isTall (stretchCode (now (memory .entry)) here i)) (stretchCode (now (memory .entry)) here i) (stretchCode (now (memory .entry)) above i) ⌝ }
 {
     let c = memory[here.c + i];
     let b = memory[here.b + i];
