@@ -22,10 +22,11 @@ use Rattle.address.proofs.Places.{place-within}
 use Rattle.cell.specs.Cells.{isQuadrichrome}
 use Rattle.page.specs.Codes.{codeOf}
 use Rattle.page.specs.Inputs.{flashes}
-use Rattle.asking.specs.declared.key.Keys.{Keys}
-use Rattle.asking.specs.HowAsked.{keysHigh, isSource, showsCharacter, fromBlock, keyed, blinks, codeFrom, flashAt, blinkAt, characterAt, keyedAt}
+use Rattle.keys.specs.declared.key.Keys.{Keys}
+use Rattle.keys.specs.HowKeys.{keysHigh, isSource, fromBlock, keyed}
+use Rattle.asking.specs.HowAsked.{showsCharacter, blinks, codeFrom, flashAt, blinkAt, characterAt, keyedAt}
 use Rattle.page.proofs.Stretches.{stretch-place, bichrome-test, row-stretches}
-use Rattle.asking.proofs.Tests.{or-swap}
+use Rattle.keys.proofs.Tests.{or-swap}
 
 -- the code of cell i of a stretch within a row
 pub stretch-code :

@@ -5,13 +5,14 @@ ghost use Prim.Native.Nat.{_+_, _≤_, _<_};
 ghost use lib.ListN.{length};
 ghost use Rattle.basics.specs.Below.{anyBelow};
 ghost use Rattle.address.specs.Boards.{boardBlocks, memoryBytes};
-ghost use Rattle.asking.specs.HowAsked.{tallAt, flashAt, blinkAt, characterAt, keyedAt, keysHigh};
-use crate::key::Keys;
+ghost use Rattle.asking.specs.HowAsked.{tallAt, flashAt, blinkAt, characterAt, keyedAt};
+ghost use Rattle.keys.specs.HowKeys.{keysHigh};
 use crate::stretch::some_blink;
 use crate::stretch::some_character;
 use crate::stretch::some_flash;
 use crate::stretch::some_keyed;
 use crate::stretch::some_tall;
+use keys::key::Keys;
 
 pub fn has_tall(memory: &[u8], z: u8, y: u8) -> bool
     requires { ⌜ (length (now memory) ≡ memoryBytes) × (z < boardBlocks) × (y < 32) ⌝ }

@@ -11,8 +11,9 @@ ghost use Rattle.address.specs.Places.{placeOf};
 ghost use Rattle.page.specs.Codes.{codeOf};
 ghost use Rattle.page.specs.Halves.{isTall};
 ghost use Rattle.page.specs.Inputs.{flashes};
-ghost use Rattle.asking.specs.HowAsked.{codeFrom, blinks, showsCharacter, keyed};
-use crate::key::Keys;
+ghost use Rattle.asking.specs.HowAsked.{codeFrom, blinks, showsCharacter};
+ghost use Rattle.keys.specs.HowKeys.{keyed};
+use keys::key::Keys;
 use page::stretch::start;
 
 // A cell of double height.

@@ -23,7 +23,7 @@ use Rattle.shown.proofs.Refusals.{can-draw-same}
 use Rattle.page.specs.Marks.{isMarked, allMarked}
 use Rattle.picture.specs.Redraws.{redrawn, fresh}
 use Rattle.picture.proofs.Redrawing.{redrawn-fresh, fresh-part}
-use Rattle.picture.proofs.Registers.{row-ignores}
+use Rattle.rows.proofs.Registers.{row-ignores}
 use Rattle.processor.specs.declared.state.Processor.{Processor}
 use Rattle.command.specs.declared.answer.Drawing.{Drawing}
 use Rattle.command.specs.Answers.{drawNumberOf}

@@ -21,7 +21,7 @@ use Rattle.page.specs.Inputs.{decoded, Slices, takenFrom, cellInput, rowInput}
 use Rattle.sources.specs.declared.source.Source.{Source}
 use Rattle.sources.specs.declared.source.Source.the-variants.{Rom, Block}
 use Rattle.halves.proofs.Halves.{half-same}
-use Rattle.picture.specs.Rows.{painted}
+use Rattle.rows.specs.Rows.{painted}
 use Rattle.reading.specs.Lists.{rowHolds, isAt, sourceHolds, cellHolds, slicesHold, hasTall, onList}
 use Rattle.reading.specs.Agreeing.{Agree, AgreeOnList}
 use Rattle.reading.proofs.Stable.{eqb-self, Own, Up, code-same, own-above, up-above, its-own, its-up}

@@ -19,12 +19,12 @@ use Rattle.shown.specs.declared.Shown.{Shown}
 use Rattle.shown.specs.Refusals.{canDraw}
 use Rattle.page.specs.Inputs.{CellInput, cellInput, rowInput, flashes, noInput}
 use Rattle.page.specs.Marks.{isMarked, markedToo}
-use Rattle.picture.specs.Rows.{rowOf}
+use Rattle.rows.specs.Rows.{rowOf}
 use Rattle.reading.specs.Lists.{onList}
 use Rattle.reading.specs.Marks.{storeMarks, flashIn, phaseMarks}
 use Rattle.reading.proofs.Stable.{agree-off}
-use Rattle.picture.proofs.Phases.{anyFlashes}
-use Rattle.picture.proofs.Registers.{row-steady}
+use Rattle.rows.proofs.Phases.{anyFlashes}
+use Rattle.rows.proofs.Registers.{row-steady}
 use Rattle.kept.proofs.Frame.{frame-law}
 
 -- a row that was not marked too was not marked before

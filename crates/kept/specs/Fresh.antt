@@ -9,7 +9,7 @@ use Rattle.shown.specs.declared.Shown.{Shown}
 use Rattle.shown.specs.Lengths.{columnBytes, rowBytes}
 use Rattle.shown.specs.Refusals.{canDraw}
 use Rattle.page.specs.Marks.{isMarked}
-use Rattle.picture.specs.Rows.{rowOf}
+use Rattle.rows.specs.Rows.{rowOf}
 use Rattle.processor.specs.declared.state.Processor.{Processor}
 use Rattle.processor.specs.States.{shownOf}
 use Rattle.kept.specs.Runs.{World}

@@ -22,7 +22,7 @@ use Rattle.shown.specs.Refusals.{canDraw}
 use Rattle.page.specs.Marks.{markedToo}
 use Rattle.reading.specs.Lists.{onList}
 use Rattle.reading.specs.Marks.{storeMarks, storesMarks, changesOn, codeStores}
-use Rattle.asking.specs.HowAsked.{passes, someBlock, someChanged}
+use Rattle.keys.specs.HowKeys.{passes, someBlock, someChanged}
 use Rattle.marking.specs.HowMarked.{changedBlock, someOnList, changeMarks}
 use Rattle.reading.proofs.Marking.{marked-none, marked-same}
 use Rattle.reading.proofs.Several.{several}

@@ -3,4 +3,3 @@ pub mod Falls
 pub mod Loops
 pub mod Lists
 pub mod Changes
-pub mod Quiet

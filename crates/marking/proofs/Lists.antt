@@ -17,14 +17,15 @@ use Rattle.shown.specs.declared.Shown.{Shown}
 use Rattle.shown.specs.Origins.{yorOf, firstBlock}
 use Rattle.page.specs.Codes.{codeOf, codeAt}
 use Rattle.page.specs.Marks.{markedToo}
-use Rattle.asking.specs.declared.key.Keys.{Keys}
+use Rattle.keys.specs.declared.key.Keys.{Keys}
 use Rattle.reading.specs.Lists.{rowHolds, cellHolds, slicesHold, hasTall, aboveHolds, onList}
-use Rattle.asking.specs.HowAsked.{someBlock, keysOf, isSource, tallAt, keyedAt, rowAt, codeBlock, someCodeBlock}
+use Rattle.keys.specs.HowKeys.{someBlock, keysOf, isSource, rowAt, codeBlock, someCodeBlock}
+use Rattle.asking.specs.HowAsked.{tallAt, keyedAt}
 use Rattle.marking.specs.HowMarked.{fallsTo, someOnList}
-use Rattle.asking.proofs.Blocks.{some-same, some-each, some-none, some-or, some-any}
+use Rattle.keys.proofs.Blocks.{some-same, some-each, some-none, some-or, some-any}
 use Rattle.asking.proofs.Rows.{no-source}
-use Rattle.asking.proofs.Characters.{keyed-cell}
-use Rattle.asking.proofs.Places.{no-code-block, own-bytes, row-at}
+use Rattle.keys.proofs.Characters.{keyed-cell}
+use Rattle.keys.proofs.Places.{no-code-block, own-bytes, row-at}
 use Rattle.reading.proofs.Marking.{marked-none, marked-same, marked-twice, marked-long}
 
 -- own bytes and those above, and then slices; the list names the slices before those above

@@ -2,18 +2,17 @@
 -- asked are those whose lists hold such a byte, and `store-changes` and `code-changes` of proofs/Changes.antt that one store, and the three of a
 -- code, mark those rows.
 -- Assumes nothing.
-use Prim.Native.Nat.{ℕ, zero, suc, _+_}
+use Prim.Native.Nat.{ℕ, zero, suc}
 use mathlib.Core.Bool.{Bool, not, _&&_, _||_}
 use mathlib.Core.List.{List}
 use lib.Dec.{eqb, leb, ltb}
 use Rattle.basics.specs.Choice.{pick}
-use Rattle.basics.specs.Below.{anyBelow}
 use Rattle.address.specs.Places.{placeOf, byteAt}
 use Rattle.shown.specs.declared.Shown.{Shown}
 use Rattle.shown.specs.Refusals.{canDraw}
 use Rattle.page.specs.Marks.{isMarked, markedToo}
 use Rattle.reading.specs.Lists.{onList}
-use Rattle.asking.specs.HowAsked.{someBlock, blinkAt}
+use Rattle.keys.specs.HowKeys.{someBlock}
 
 -- block z where the byte at place p is not v
 unfoldable pub changedBlock : List ℕ → ℕ → ℕ → ℕ → ℕ
@@ -27,10 +26,6 @@ fallsTo tall row (suc r) = eqb (suc r) row || (tall (suc r) && fallsTo tall row 
 -- y is one from first on, below end
 unfoldable pub inGroup : ℕ → ℕ → ℕ → Bool
 inGroup first end y = leb first y && ltb y end
-
--- the row before is not marked, the Ys go on for four rows, and no cell of these has its A3 set
-unfoldable pub areQuiet : List ℕ → ℕ → ℕ → Bool → Bool
-areQuiet m z y before = not before && (leb y 28 && not (anyBelow (λ k. blinkAt m z (y + k)) 4))
 
 -- row r's list holds the byte at X and Y in some block
 unfoldable pub someOnList : Shown → List ℕ → ℕ → ℕ → List ℕ → ℕ → Bool

@@ -10,17 +10,18 @@ ghost use Rattle.address.specs.Triples.{onPage};
 ghost use Rattle.address.specs.Rows.{rowY};
 ghost use Rattle.page.specs.Marks.{markedToo};
 ghost use Rattle.marking.specs.HowMarked.{fallsTo, inGroup, someOnList};
-ghost use Rattle.asking.specs.HowAsked.{tallAt, rowAt, someCodeBlock, keyedAt, keysHigh};
+ghost use Rattle.asking.specs.HowAsked.{tallAt, keyedAt};
+ghost use Rattle.keys.specs.HowKeys.{rowAt, someCodeBlock, keysHigh};
 use address::row::row_y;
-use asking::key::Keys;
-use asking::key::is_source;
-use asking::key::keys_of;
-use asking::key::some_code_block;
-use asking::own::row_at;
 use asking::row::has_tall;
 use asking::row::is_marked_or_keyed;
 use asking::row::near_has;
 use asking::row::service_has;
+use keys::key::Keys;
+use keys::key::is_source;
+use keys::key::keys_of;
+use keys::key::some_code_block;
+use keys::own::row_at;
 use shown::Shown;
 
 // The row that has the byte among its own, and those below it down to the first without a cell of double height.

@@ -14,7 +14,7 @@ use crate::list::list_marks;
 use address::place::block;
 use address::place::place_at;
 use address::triple::Triple;
-use asking::key::some_changed;
+use keys::key::some_changed;
 use shown::Shown;
 
 // From the last row up: after a draw that is the first look.

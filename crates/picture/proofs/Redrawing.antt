@@ -19,11 +19,11 @@ use Rattle.page.specs.Halves.{lowerHalves}
 use Rattle.page.specs.HowHalves.{KnownAbove}
 use Rattle.page.specs.Inputs.{CellInput}
 use Rattle.lines.proofs.Lengths.{columns-long, lines-long}
-use Rattle.picture.specs.Rows.{paintedLine, painted, rowOf}
-use Rattle.picture.specs.HowRows.{inputsOf}
+use Rattle.rows.specs.Rows.{paintedLine, painted, rowOf}
+use Rattle.rows.specs.HowRows.{inputsOf}
 use Rattle.page.specs.Marks.{isMarked, markedRows}
 use Rattle.picture.specs.Redraws.{redrawn, fresh}
-use Rattle.picture.proofs.Drawn.{inputs-row}
+use Rattle.rows.proofs.Drawn.{inputs-row}
 use Rattle.picture.proofs.AnyRows.{redrawn-rows-long, redrawn-rows-fresh, redrawn-rows-all, redrawn-rows-none, fresh-rows-part, DrawnTo, drew, end}
 
 -- the lengths of a line and a row, whatever they are painted from

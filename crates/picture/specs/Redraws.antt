@@ -8,7 +8,7 @@ use Rattle.basics.specs.Parts.{joined, partOf}
 use Rattle.shown.specs.declared.Shown.{Shown}
 use Rattle.shown.specs.Lengths.{columnBytes, rowBytes}
 use Rattle.page.specs.Marks.{isMarked}
-use Rattle.picture.specs.Rows.{rowOf}
+use Rattle.rows.specs.Rows.{rowOf}
 
 -- A row is the 1,600 bytes of the picture from 1,600 times its number: row r after a redraw, with k bytes a column
 abbrev pub rowAfter : ℕ → List Bool → List ℕ → (ℕ → List ℕ) → ℕ → List ℕ

@@ -1,3 +1,2 @@
-// The picture: the row drawer on a lent part, and the redrawing of marked rows.
+// The picture: the redrawing of its marked rows.
 pub mod redraw;
-pub mod row;

@@ -6,10 +6,10 @@ ghost use Rattle.address.specs.Boards.{memoryBytes};
 ghost use Rattle.shown.specs.Lengths.{romBytes, columnBytes, pictureBytes};
 ghost use Rattle.page.specs.Marks.{isMarked, markedRows};
 ghost use Rattle.picture.specs.Redraws.{redrawn};
-use crate::row::draw_row;
 use halves::half::lower_halves_after;
 use halves::half::right_halves_of;
 use page::code::row_buffer;
+use rows::row::draw_row;
 use shown::Shown;
 use shown::length::ROW_BYTES;
 

@@ -13,7 +13,7 @@ use crate::execute::execute;
 use crate::state::Processor;
 use address::board::MEMORY_BYTES;
 use command::answer::Answer;
-use marking::phase::phase_marks;
+use phases::phase::phase_marks;
 
 // An access is refused by 1 or 2, before it takes place.
 fn is_refused(memory: usize, address: u8) -> bool

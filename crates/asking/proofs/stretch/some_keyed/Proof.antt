@@ -5,7 +5,7 @@ use native.Mathlib.Omega.{arith}
 use Rattle.basics.specs.Below.{anyBelow}
 use Rattle.page.specs.Codes.{codeOf}
 use Rattle.basics.proofs.Below.{gathered, gathered-end}
-use Rattle.asking.specs.HowAsked.{keyed}
+use Rattle.keys.specs.HowKeys.{keyed}
 use Rattle.page.proofs.Stretches.{stretch-fits, stretch-c, stretch-b}
 use Rattle.asking.proofs.Rows.{keyed-test}
 use borrow.Author.Needs.{needs}

@@ -6,7 +6,7 @@ use native.Mathlib.Omega.{arith}
 use Rattle.address.specs.Rows.{rowY}
 use Rattle.page.specs.Marks.{markedToo}
 use Rattle.asking.specs.HowAsked.{keyedAt}
-use Rattle.asking.proofs.Places.{row-at, row-at-small}
+use Rattle.keys.proofs.Places.{row-at, row-at-small}
 use Rattle.marking.proofs.Loops.{between, between-start, between-turn}
 use Rattle.address.proofs.Laws.{facts-y}
 use borrow.Author.Needs.{needs}

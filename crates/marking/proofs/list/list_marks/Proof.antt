@@ -1,8 +1,8 @@
 use mathlib.Core.Path.{ap, _∙_}
 use native.Mathlib.Omega.{arith}
 use lib.ListN.{length}
-use Rattle.asking.proofs.Characters.{keys-high}
-use Rattle.asking.proofs.Places.{page-y}
+use Rattle.keys.proofs.Characters.{keys-high}
+use Rattle.keys.proofs.Places.{page-y}
 use Rattle.reading.proofs.Marking.{marked-long}
 use Rattle.marking.proofs.Lists.{list-asked, list-left}
 use borrow.Author.Needs.{needs}

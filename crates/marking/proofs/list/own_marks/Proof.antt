@@ -1,4 +1,4 @@
-use Rattle.asking.proofs.Places.{row-at-small}
+use Rattle.keys.proofs.Places.{row-at-small}
 use Rattle.marking.proofs.Lists.{own-reached, own-left}
 use borrow.Author.Needs.{needs}
 use Rattle.marking.proofs.list.own_marks.Statement.{statement}

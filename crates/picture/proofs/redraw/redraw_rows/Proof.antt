@@ -1,6 +1,6 @@
 use Rattle.picture.proofs.AnyRows.{DrawnTo, start, keep}
 use Rattle.picture.proofs.Redrawing.{drew-row, redrawn-end, not-known, known-next}
-use Rattle.picture.specs.Rows.{rowOf}
+use Rattle.rows.specs.Rows.{rowOf}
 use Rattle.page.specs.Marks.{isMarked}
 use Rattle.page.specs.HowHalves.{KnownAbove}
 use Rattle.shown.specs.Lengths.{columnBytes}

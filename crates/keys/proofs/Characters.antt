@@ -1,0 +1,275 @@
+-- The keys tell the cells that read a byte of one of the blocks as a slice: the place of a legal triple is that of one slice of one
+-- character in one block, and a cell's source is one of the blocks where a part of its B is as DOR says.
+-- Assumes nothing.
+use Prim.Native.Nat.{ℕ, _+_, _*_, _/_, _%_, _≤_, _<_}
+use mathlib.Core.Path.{_≡_, refl, sym, ap, ap₂, _∙_}
+use mathlib.Core.Bool.{Bool, true, false, _&&_, _||_, false≢true, and-true, and-false}
+use mathlib.Core.List.{List}
+use mathlib.Core.Logic.{⊎-elim}
+use native.Mathlib.Omega.{arith}
+use lib.Dec.{eqb, leb}
+use lib.ListN.{getD}
+use borrow.Author.Tests.{eq-eqb, ne-eqb, eqb-true, le-leb}
+use Rattle.basics.specs.Choice.{pick}
+use Rattle.basics.specs.Bits.{bits}
+use Rattle.basics.specs.Below.{anyBelow}
+use Rattle.basics.proofs.Choice.{bool-cases, lt-or-le, and-left, and-right, and-both}
+use Rattle.basics.proofs.Computed.{agree-test}
+use Rattle.basics.proofs.Below.{any-hit, any-at}
+use Rattle.address.specs.Triples.{legalY, onPage}
+use Rattle.address.specs.Places.{placeOf}
+use Rattle.address.specs.Slices.{sliceX, sliceY, slicePlaceOf}
+use Rattle.address.proofs.Laws.{y-facts, facts-y, page-column, page-row, facts-page}
+use Rattle.address.proofs.Places.{place-injective}
+use Rattle.shown.specs.declared.Shown.{Shown}
+use Rattle.cell.specs.Cells.{setOf, bichromeOf, quadrichromeOf, isQuadrichrome, cellOf}
+use Rattle.cell.specs.declared.kind.Cell.the-variants.{Bichrome, Quadrichrome}
+use Rattle.cell.proofs.Codes.{set-UserG0, set-UserG1, cell-bichrome, cell-quadrichrome}
+use Rattle.sources.specs.Sources.{setSource, cellSource, characterOf}
+use Rattle.sources.specs.declared.source.Source.{Source}
+use Rattle.sources.specs.declared.source.Source.the-variants.{Rom, Block}
+use Rattle.reading.specs.Lists.{isAt, sourceHolds, cellHolds}
+use Rattle.sources.proofs.SliceSources.{Fitting, source-fitting}
+use Rattle.keys.specs.declared.key.Keys.{Keys}
+use Rattle.keys.specs.HowKeys.{keyIf, isOne, someBlock, quadKey, keysOf, keysHigh, fromBlock, keyed}
+use Rattle.keys.proofs.Tests.{together}
+use Rattle.keys.proofs.Blocks.{some-none, some-same, some-and, some-one}
+
+-- one character has the place among its slices
+module _ (x y z : ℕ) (page : onPage x y ≡ true) where
+  -- where the character's Y is legal
+  held : (c n b : ℕ) → legalY (sliceY c) ≡ true → isAt (placeOf x y z) (slicePlaceOf c n b) ≡ eqb (placeOf x y z) (placeOf (sliceX c n) (sliceY c) b)
+  unfolding slicePlaceOf
+  held c n b e = rw e
+
+  unheld : (c n b : ℕ) → legalY (sliceY c) ≡ false → isAt (placeOf x y z) (slicePlaceOf c n b) ≡ false
+  unfolding slicePlaceOf
+  unheld c n b e = rw e
+
+  only : (c n b : ℕ) → n < 10 → isAt (placeOf x y z) (slicePlaceOf c n b) ≡ true → (eqb (c % 128) (y * 4 + x % 4) && eqb b z) ≡ true
+  only c n b l e =
+      ⊎-elim
+      (λ legal.
+      let same = place-injective x y z (sliceX c n) (sliceY c) b page (facts-page (sliceX c n) (sliceY c) (omega arith) (y-facts (sliceY c) legal)) (eqb-true _ _ (sym (held c n b legal) ∙ e)) in
+      and-both _ _ (eq-eqb (c % 128) (y * 4 + x % 4) (omega arith)) (eq-eqb b z (omega arith)))
+      (λ none. absurd (false≢true (sym (unheld c n b none) ∙ e)))
+      (bool-cases (legalY (sliceY c)))
+
+  -- slice x / 4
+  there : (c b : ℕ) → c % 128 ≡ y * 4 + x % 4 → b ≡ z → isAt (placeOf x y z) (slicePlaceOf c (x / 4) b) ≡ true
+  there c b e f =
+      let row = page-row x y page in
+      let ey : sliceY c ≡ y = ⊎-elim (λ r. omega arith) (λ r. omega arith) row in
+      let ex : sliceX c (x / 4) ≡ x = omega arith in
+      held c (x / 4) b (rw ey (facts-y y row))
+      ∙ eq-eqb _ _ (sym (ap (λ (a : ℕ). placeOf a (sliceY c) b) ex ∙ ap (λ (a : ℕ). placeOf x a b) ey ∙ ap (placeOf x y) f))
+
+  pub slices-hold : (c b : ℕ) → anyBelow (λ n. isAt (placeOf x y z) (slicePlaceOf c n b)) 10 ≡ (eqb (c % 128) (y * 4 + x % 4) && eqb b z)
+  slices-hold c b =
+      together _ _
+      (λ e. let w = any-at _ 10 e in only c (w .at) b (w .low) (w .passes))
+      (λ e.
+      let column = page-column x y page in
+      any-hit _ 10 (x / 4) (omega arith) (there c b (eqb-true _ _ (and-left _ _ e)) (eqb-true _ _ (and-right (eqb (c % 128) (y * 4 + x % 4)) _ e))))
+
+-- the source is block z; is one of the blocks
+abbrev sourceIs : ℕ → Source → Bool
+sourceIs z (Rom set) = false
+sourceIs z (Block b) = eqb b z
+
+abbrev oneIs : List ℕ → Source → Bool
+oneIs blocks (Rom set) = false
+oneIs blocks (Block b) = isOne blocks b
+
+-- the source of a cell, by B
+module _ (shown : Shown) (c b a : ℕ) where
+  bichrome : b < 192 → cellSource shown (cellOf c b a) ≡ setSource shown (setOf (bits 4 4 b))
+  unfolding bichromeOf
+  bichrome h = ap (cellSource shown) (sym (cell-bichrome c b a h))
+
+  source-rom : (blocks : List ℕ) → b < 128 → oneIs blocks (cellSource shown (cellOf c b a)) ≡ false
+  unfolding setOf
+  source-rom blocks h =
+      ap (oneIs blocks) (bichrome (omega arith))
+      ∙ agree-test (λ high. oneIs blocks (setSource shown (setOf high))) (λ high. false) 8 tt (bits 4 4 b) (omega arith)
+
+  source-user0 : 128 ≤ b → b < 160 → cellSource shown (cellOf c b a) ≡ Block (shown .dor % 16)
+  source-user0 h l =
+      bichrome (omega arith)
+      ∙ ap (setSource shown) (sym (set-UserG0 (bits 4 4 b) (omega arith) (omega arith)))
+      ∙ ap Block (omega arith)
+
+  source-user1 : 160 ≤ b → b < 192 → cellSource shown (cellOf c b a) ≡ Block (2 * (shown .dor / 16 % 8) + b / 16 % 2)
+  source-user1 h l =
+      let e : 2 * bits 4 3 (shown .dor) + bits 4 4 b % 2 % 2 ≡ 2 * (shown .dor / 16 % 8) + b / 16 % 2 = omega arith in
+      bichrome l ∙ ap (setSource shown) (sym (set-UserG1 (bits 4 4 b) (omega arith))) ∙ ap Block e
+
+  source-quad : 192 ≤ b → b < 256 → cellSource shown (cellOf c b a) ≡ Block (8 * (shown .dor / 128 % 2) + b / 8 % 8)
+  unfolding quadrichromeOf
+  source-quad h l =
+      let e : 8 * (shown .dor / 128 % 2) + bits 3 3 b % 8 ≡ 8 * (shown .dor / 128 % 2) + b / 8 % 8 = omega arith in
+      ap (cellSource shown) (sym (cell-quadrichrome c b a h l)) ∙ ap Block e
+
+  character : characterOf (cellOf c b a) ≡ c
+  unfolding cellOf bichromeOf quadrichromeOf
+  character = go (isQuadrichrome b)
+    where
+      go : (q : Bool) → characterOf (pick q (Quadrichrome (quadrichromeOf c b a)) (Bichrome (bichromeOf c b a))) ≡ c
+      go true = refl
+      go false = refl
+
+-- a key of 255 is met by no part of a byte
+key-met : (fits : Bool) (v key : ℕ) → v < 255 → eqb v (keyIf fits key) ≡ (fits && eqb v key)
+key-met true v key h = refl
+key-met false v key h = ne-eqb v 255 (λ e. omega arith)
+
+met-fit : (fits : Bool) (v key : ℕ) → v < 255 → v ≡ key → eqb v (keyIf fits key) ≡ fits
+met-fit fits v key h e = key-met fits v key h ∙ ap (λ (t : Bool). fits && t) (eq-eqb v key e) ∙ and-true fits
+
+unmet : (fits : Bool) (v key : ℕ) → v < 255 → (v ≡ key → ⊥) → eqb v (keyIf fits key) ≡ false
+unmet fits v key h n = key-met fits v key h ∙ ap (λ (t : Bool). fits && t) (ne-eqb v key n) ∙ and-false fits
+
+-- one of the six keys is met
+six :
+    {p q r s t u p′ q′ r′ s′ t′ u′ : Bool} → p ≡ p′ → q ≡ q′ → r ≡ r′ → s ≡ s′ → t ≡ t′ → u ≡ u′
+    → ((p || (q || r)) || (s || (t || u))) ≡ ((p′ || (q′ || r′)) || (s′ || (t′ || u′)))
+six a b c d e f = ap₂ _||_ (ap₂ _||_ a (ap₂ _||_ b c)) (ap₂ _||_ d (ap₂ _||_ e f))
+
+first-met : (p : Bool) → ((p || (false || false)) || (false || (false || false))) ≡ p
+first-met true = refl
+first-met false = refl
+
+second-met : (p : Bool) → ((false || (p || false)) || (false || (false || false))) ≡ p
+second-met true = refl
+second-met false = refl
+
+third-met : (p : Bool) → ((false || (false || p)) || (false || (false || false))) ≡ p
+third-met true = refl
+third-met false = refl
+
+-- two comparisons that are one
+both : (a b c d e f : ℕ) → (a ≡ b → c ≡ d → e ≡ f) → (e ≡ f → a ≡ b) → (e ≡ f → c ≡ d) → (eqb a b && eqb c d) ≡ eqb e f
+both a b c d e f l m n =
+    together _ _
+    (λ t. eq-eqb e f (l (eqb-true a b (and-left _ _ t)) (eqb-true c d (and-right (eqb a b) _ t))))
+    (λ t. let g = eqb-true e f t in and-both _ _ (eq-eqb a b (m g)) (eq-eqb c d (n g)))
+
+module _ (shown : Shown) (blocks : List ℕ) (b : ℕ) (small : b < 256) where
+  abbrev g0 : ℕ
+  g0 = shown .dor % 16
+
+  abbrev g1 : ℕ
+  g1 = shown .dor / 16 % 8 * 2
+
+  abbrev met : Bool
+  met =
+      (eqb (b / 32) (keyIf (isOne blocks g0) 4) || (eqb (b / 16) (keyIf (isOne blocks g1) 10) || eqb (b / 16) (keyIf (isOne blocks (g1 + 1)) 11)))
+      || (eqb (b / 8) (quadKey shown (getD blocks 0 0)) || (eqb (b / 8) (quadKey shown (getD blocks 1 0)) || eqb (b / 8) (quadKey shown (getD blocks 2 0))))
+
+  -- a bichrome cell meets no quadrichrome key; a quadrichrome cell that of its block
+  no-quad : b < 192 → (z : ℕ) → eqb (b / 8) (quadKey shown z) ≡ false
+  no-quad h z = unmet (eqb (shown .dor / 128 % 2) (z / 8)) (b / 8) (24 + z % 8) (omega arith) (λ e. omega arith)
+
+  its-quad : 192 ≤ b → (z : ℕ) → eqb (b / 8) (quadKey shown z) ≡ eqb z (8 * (shown .dor / 128 % 2) + b / 8 % 8)
+  its-quad h z =
+      key-met (eqb (shown .dor / 128 % 2) (z / 8)) (b / 8) (24 + z % 8) (omega arith)
+      ∙ both (shown .dor / 128 % 2) (z / 8) (b / 8) (24 + z % 8) z (8 * (shown .dor / 128 % 2) + b / 8 % 8) (λ p q. omega arith) (λ e. omega arith) (λ e. omega arith)
+
+  -- the keys are met exactly where the source is one of the blocks
+  module _ (c a : ℕ) where
+    met-rom : b < 128 → met ≡ oneIs blocks (cellSource shown (cellOf c b a))
+    met-rom l =
+        six (unmet (isOne blocks g0) (b / 32) 4 (omega arith) (λ e. omega arith)) (unmet (isOne blocks g1) (b / 16) 10 (omega arith) (λ e. omega arith))
+        (unmet (isOne blocks (g1 + 1)) (b / 16) 11 (omega arith) (λ e. omega arith)) (no-quad (omega arith) (getD blocks 0 0)) (no-quad (omega arith) (getD blocks 1 0)) (no-quad (omega arith) (getD blocks 2 0))
+        ∙ sym (source-rom shown c b a blocks l)
+
+    met-user0 : 128 ≤ b → b < 160 → met ≡ oneIs blocks (cellSource shown (cellOf c b a))
+    met-user0 h l =
+        six (met-fit (isOne blocks g0) (b / 32) 4 (omega arith) (omega arith)) (unmet (isOne blocks g1) (b / 16) 10 (omega arith) (λ e. omega arith))
+        (unmet (isOne blocks (g1 + 1)) (b / 16) 11 (omega arith) (λ e. omega arith)) (no-quad (omega arith) (getD blocks 0 0)) (no-quad (omega arith) (getD blocks 1 0)) (no-quad (omega arith) (getD blocks 2 0))
+        ∙ first-met (isOne blocks g0)
+        ∙ sym (ap (oneIs blocks) (source-user0 shown c b a h l))
+
+    met-user10 : 160 ≤ b → b < 176 → met ≡ oneIs blocks (cellSource shown (cellOf c b a))
+    met-user10 h l =
+        let e : g1 ≡ 2 * (shown .dor / 16 % 8) + b / 16 % 2 = omega arith in
+        six (unmet (isOne blocks g0) (b / 32) 4 (omega arith) (λ e. omega arith)) (met-fit (isOne blocks g1) (b / 16) 10 (omega arith) (omega arith))
+        (unmet (isOne blocks (g1 + 1)) (b / 16) 11 (omega arith) (λ e. omega arith)) (no-quad (omega arith) (getD blocks 0 0)) (no-quad (omega arith) (getD blocks 1 0)) (no-quad (omega arith) (getD blocks 2 0))
+        ∙ second-met (isOne blocks g1)
+        ∙ ap (isOne blocks) e
+        ∙ sym (ap (oneIs blocks) (source-user1 shown c b a h (omega arith)))
+
+    met-user11 : 176 ≤ b → b < 192 → met ≡ oneIs blocks (cellSource shown (cellOf c b a))
+    met-user11 h l =
+        let e : g1 + 1 ≡ 2 * (shown .dor / 16 % 8) + b / 16 % 2 = omega arith in
+        six (unmet (isOne blocks g0) (b / 32) 4 (omega arith) (λ e. omega arith)) (unmet (isOne blocks g1) (b / 16) 10 (omega arith) (λ e. omega arith))
+        (met-fit (isOne blocks (g1 + 1)) (b / 16) 11 (omega arith) (omega arith)) (no-quad (omega arith) (getD blocks 0 0)) (no-quad (omega arith) (getD blocks 1 0)) (no-quad (omega arith) (getD blocks 2 0))
+        ∙ third-met (isOne blocks (g1 + 1))
+        ∙ ap (isOne blocks) e
+        ∙ sym (ap (oneIs blocks) (source-user1 shown c b a (omega arith) l))
+
+    met-quad : 192 ≤ b → met ≡ oneIs blocks (cellSource shown (cellOf c b a))
+    unfolding isOne
+    met-quad h =
+        six (unmet (isOne blocks g0) (b / 32) 4 (omega arith) (λ e. omega arith)) (unmet (isOne blocks g1) (b / 16) 10 (omega arith) (λ e. omega arith))
+        (unmet (isOne blocks (g1 + 1)) (b / 16) 11 (omega arith) (λ e. omega arith)) (its-quad h (getD blocks 0 0)) (its-quad h (getD blocks 1 0)) (its-quad h (getD blocks 2 0))
+        ∙ sym (ap (oneIs blocks) (source-quad shown c b a h small))
+
+    pub block-met : met ≡ oneIs blocks (cellSource shown (cellOf c b a))
+    block-met =
+        ⊎-elim met-rom
+        (λ h1. ⊎-elim (met-user0 h1) (λ h2. ⊎-elim (met-user10 h2) (λ h3. ⊎-elim (met-user11 h3) met-quad (lt-or-le b 192)) (lt-or-le b 176)) (lt-or-le b 160))
+        (lt-or-le b 128)
+
+-- a source is one of the blocks where it is some block
+some-source : (blocks : List ℕ) (s : Source) → Fitting s → someBlock (λ z. sourceIs z s) blocks ≡ oneIs blocks s
+some-source blocks (Rom set) l = some-none blocks
+some-source blocks (Block b) l = some-one blocks b (omega arith)
+
+module _ (shown : Shown) (x y : ℕ) (page : onPage x y ≡ true) where
+  source-holds : (z c : ℕ) (s : Source) → sourceHolds (placeOf x y z) c s ≡ (eqb (c % 128) (y * 4 + x % 4) && sourceIs z s)
+  source-holds z c (Rom set) = sym (and-false (eqb (c % 128) (y * 4 + x % 4)))
+  source-holds z c (Block b) = slices-hold x y z page c b
+
+  pub keyed-cell :
+      (blocks code : List ℕ) → getD code 1 0 < 256
+      → keyed (keysOf shown x y blocks) code ≡ someBlock (λ z. cellHolds shown (placeOf x y z) code) blocks
+  unfolding keyed keysOf fromBlock cellHolds
+  keyed-cell blocks code small =
+      let c = getD code 0 0 in
+      let b = getD code 1 0 in
+      let a = getD code 2 0 in
+      let s = cellSource shown (cellOf c b a) in
+      ap (λ (t : Bool). eqb (c % 128) (y * 4 + x % 4) && t) (block-met shown blocks b small c a ∙ sym (some-source blocks s (source-fitting shown (cellOf c b a))))
+      ∙ sym (some-and blocks (eqb (c % 128) (y * 4 + x % 4)) (λ z. sourceIs z s))
+      ∙ some-same blocks _ _
+      (λ z. sym (source-holds z c s) ∙ ap (λ (n : ℕ). sourceHolds (placeOf x y z) n s) (sym (character shown c b a)))
+
+-- the keys that the code has
+pub keys-made :
+    (shown : Shown) (x y : ℕ) (blocks : List ℕ) (f g h : Bool) (u v w p q r : ℕ)
+    → f ≡ isOne blocks (shown .dor % 16) → u ≡ keyIf f 4
+    → g ≡ isOne blocks (shown .dor / 16 % 8 * 2) → v ≡ keyIf g 10
+    → h ≡ isOne blocks (shown .dor / 16 % 8 * 2 + 1) → w ≡ keyIf h 11
+    → p ≡ quadKey shown (getD blocks 0 0) → q ≡ quadKey shown (getD blocks 1 0) → r ≡ quadKey shown (getD blocks 2 0)
+    → _≡_ {A = Keys} (record { character = y * 4 + x % 4; user0 = u; user10 = v; user11 = w; quad0 = p; quad1 = q; quad2 = r }) (keysOf shown x y blocks)
+unfolding keysOf
+keys-made shown x y blocks f g h u v w p q r ef eu eg ev eh ew ep eq er = rw (eu, ef, ev, eg, ew, eh, ep, eq, er)
+
+-- each key is one of a user or quadrichrome cell
+pub keys-high : (shown : Shown) (x y : ℕ) (blocks : List ℕ) (keys : Keys) → keys ≡ keysOf shown x y blocks → keysHigh keys ≡ true
+unfolding keysHigh keysOf
+keys-high shown x y blocks keys e =
+    rw e
+    (and-both _ _
+    (and-both _ _ (high 4 (isOne blocks (shown .dor % 16)) 4 (omega arith) (omega arith))
+    (and-both _ _ (high 8 (isOne blocks (shown .dor / 16 % 8 * 2)) 10 (omega arith) (omega arith))
+    (high 8 (isOne blocks (shown .dor / 16 % 8 * 2 + 1)) 11 (omega arith) (omega arith))))
+    (and-both _ _ (quad (getD blocks 0 0)) (and-both _ _ (quad (getD blocks 1 0)) (quad (getD blocks 2 0)))))
+  where
+    high : (n : ℕ) (fits : Bool) (key : ℕ) → n ≤ key → n ≤ 255 → leb n (keyIf fits key) ≡ true
+    high n true key h l = le-leb n key h
+    high n false key h l = le-leb n 255 l
+
+    quad : (z : ℕ) → leb 16 (quadKey shown z) ≡ true
+    quad z = high 16 (eqb (shown .dor / 128 % 2) (z / 8)) (24 + z % 8) (omega arith) (omega arith)

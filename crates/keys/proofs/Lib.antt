@@ -1,0 +1,4 @@
+pub mod Tests
+pub mod Blocks
+pub mod Characters
+pub mod Places

@@ -1,0 +1,12 @@
+-- How the code leaves rows that do not flash. Nothing here has to be believed: `quiet-still` of proofs/Quiet.antt shows that rows which it leaves do not.
+-- Assumes nothing.
+use Prim.Native.Nat.{ℕ, _+_}
+use mathlib.Core.Bool.{Bool, not, _&&_}
+use mathlib.Core.List.{List}
+use lib.Dec.{leb}
+use Rattle.basics.specs.Below.{anyBelow}
+use Rattle.asking.specs.HowAsked.{blinkAt}
+
+-- the row before is not marked, the Ys go on for four rows, and no cell of these has its A3 set
+unfoldable pub areQuiet : List ℕ → ℕ → ℕ → Bool → Bool
+areQuiet m z y before = not before && (leb y 28 && not (anyBelow (λ k. blinkAt m z (y + k)) 4))

@@ -1,0 +1,2 @@
+// The rows that a phase change marks.
+pub mod phase;

@@ -1,0 +1,4 @@
+pub mod Drawn
+pub mod Alike
+pub mod Phases
+pub mod Registers

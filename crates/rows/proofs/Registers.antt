@@ -1,0 +1,63 @@
+-- Which registers a row looks at: DOR and ROR for what it takes from private memory, PAT and the phase for its pixels. TGS and MAT do not
+-- matter, nor does the phase where no cell flashes.
+-- Assumes nothing.
+use Prim.Native.Nat.{ℕ}
+use mathlib.Core.Path.{_≡_, refl, ap, _∙_}
+use mathlib.Core.Bool.{false}
+use mathlib.Core.List.{List}
+use lib.ListN.{getD}
+use Rattle.basics.proofs.Parts.{table-same}
+use Rattle.shown.specs.declared.Shown.{Shown}
+use Rattle.cell.specs.declared.kind.Set.{Set}
+use Rattle.cell.specs.declared.kind.Set.the-variants.{G0, G10, G11, G20, G21, UserG0, UserG1}
+use Rattle.cell.specs.declared.kind.Cell.{Cell}
+use Rattle.cell.specs.declared.kind.Cell.the-variants.{Bichrome, Quadrichrome}
+use Rattle.pixels.specs.Pixels.{concealed, flashed}
+use Rattle.page.specs.Codes.{codeAt}
+use Rattle.sources.specs.Sources.{setSource, cellSource}
+use Rattle.page.specs.Inputs.{CellInput, decoded, cellInput, noInput, rowInput}
+use Rattle.rows.specs.Rows.{painted, rowOf}
+use Rattle.rows.proofs.Alike.{Alike, painted-alike}
+use Rattle.rows.proofs.Phases.{anyFlashes, painted-steady}
+
+-- what a row takes from private memory, by DOR and ROR alone
+module _ (a b : Shown) (dor : a .dor ≡ b .dor) (ror : a .ror ≡ b .ror) where
+  set-same : (set : Set) → setSource a set ≡ setSource b set
+  set-same G0 = refl
+  set-same G10 = refl
+  set-same G11 = refl
+  set-same G20 = refl
+  set-same G21 = refl
+  set-same UserG0 = rw dor
+  set-same (UserG1 s) = rw dor
+
+  source-same : (cell : Cell) → cellSource a cell ≡ cellSource b cell
+  source-same (Bichrome cell) = set-same (cell .set)
+  source-same (Quadrichrome cell) = rw dor
+
+  pub input-ignores : (m : List ℕ) (r : ℕ) → rowInput a m r ≡ rowInput b m r
+  unfolding rowInput cellInput
+  input-ignores m r = table-same _ _ 40 (λ x l. rw (source-same (decoded (codeAt a m r x)), ror))
+
+-- its pixels, by PAT and the phase alone
+module _ (a b : Shown) (pat : a .pat ≡ b .pat) (phase : a .phase ≡ b .phase) where
+  cell-same : (cell : Cell) → Alike a b cell
+  unfolding concealed flashed
+  cell-same (Bichrome cell) = λ t. rw (pat, phase)
+  cell-same (Quadrichrome cell) = tt
+
+  pub painted-ignores : (rom : List ℕ) (inputs : List CellInput) → painted rom a inputs ≡ painted rom b inputs
+  painted-ignores rom inputs = painted-alike a b rom inputs (λ x l. cell-same (decoded (getD inputs x noInput .code)))
+
+-- a row, by these four
+pub row-ignores :
+    (a b : Shown) → a .pat ≡ b .pat → a .dor ≡ b .dor → a .ror ≡ b .ror → a .phase ≡ b .phase → (m rom : List ℕ) (r : ℕ) → rowOf m rom a r ≡ rowOf m rom b r
+row-ignores a b pat dor ror phase m rom r =
+    painted-ignores a b pat phase rom (rowInput a m r) ∙ ap (painted rom b) (input-ignores a b dor ror m r)
+
+-- two records that differ in the phase
+pub row-steady :
+    (a b : Shown) → a .pat ≡ b .pat → a .dor ≡ b .dor → a .ror ≡ b .ror → (m rom : List ℕ) (r : ℕ)
+    → anyFlashes (rowInput a m r) ≡ false → rowOf m rom a r ≡ rowOf m rom b r
+row-steady a b pat dor ror m rom r none =
+    painted-steady a b pat rom (rowInput a m r) none ∙ ap (painted rom b) (input-ignores a b dor ror m r)

@@ -1,0 +1,2 @@
+// A row in its lent part of the picture.
+pub mod row;
