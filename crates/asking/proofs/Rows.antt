@@ -94,21 +94,18 @@ module _ (m : List ℕ) (z y first i start : ℕ) where
 pub from-fits : (blocks first n y z k start : ℕ) → start ≡ placeOf first y (blockOf z k) → blockOf z k < blocks → placeOf first y 0 + n ≤ 1024 → start + n ≤ bytesOf blocks
 from-fits blocks first n y z k start e hz h = omega (arith, place-within first y (blockOf z k))
 
--- a row has its two stretches in a block
-pub left-fits : (y : ℕ) → y < 32 → placeOf 0 y 0 + 32 ≤ 1024
-left-fits y h = omega (arith, place-left 0 y 0 (omega arith))
-
-pub right-fits : (y : ℕ) → y < 32 → placeOf 32 y 0 + 8 ≤ 1024
-right-fits y h =
-    ⊎-elim (λ q. omega (arith, place-service 32 y 0 (omega arith) q)) (λ q. omega (arith, place-right 32 y 0 (omega arith) q)) (eq-or-ne y 0)
-
--- and so have n rows that follow on
+-- n rows that follow on have their two stretches in a block
 module _ (y n : ℕ) (high : y + n ≤ 32) where
   pub lefts-fit : placeOf 0 y 0 + 32 * n ≤ 1024
   lefts-fit = omega (arith, place-left 0 y 0 (omega arith))
 
   pub rights-fit : 8 ≤ y → placeOf 32 y 0 + 8 * n ≤ 1024
   rights-fit low = omega (arith, place-right 32 y 0 (omega arith) (λ e. omega arith))
+
+-- and so has one row, also the service row
+pub right-fits : (y : ℕ) → y < 32 → placeOf 32 y 0 + 8 ≤ 1024
+right-fits y h =
+    ⊎-elim (λ q. omega (arith, place-service 32 y 0 (omega arith) q)) (λ q. omega (arith, place-right 32 y 0 (omega arith) q)) (eq-or-ne y 0)
 
 -- the service row is one stretch
 pub service-fits : placeOf 0 0 0 + 40 ≤ 1024

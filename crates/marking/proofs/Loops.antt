@@ -3,12 +3,12 @@
 -- Assumes nothing.
 use Prim.Native.Nat.{ℕ, _+_, _-_, _≤_, _<_}
 use mathlib.Core.Path.{_≡_, refl, sym, ap, ap₂, _∙_}
-use mathlib.Core.Bool.{Bool, true, false, not, _&&_, _||_, false≢true, and-false, or-false}
+use mathlib.Core.Bool.{Bool, true, false, not, _&&_, _||_, and-false, or-false}
 use mathlib.Core.List.{List}
 use mathlib.Core.Logic.{⊎-elim}
 use native.Mathlib.Omega.{arith}
 use lib.Dec.{eqb, ltb, leb}
-use borrow.Author.Tests.{eq-eqb, ne-eqb, lt-ltb, le-ltb, le-leb, lt-leb, not-false}
+use borrow.Author.Tests.{eq-eqb, ne-eqb, lt-ltb, le-ltb, le-leb, lt-leb, not-true, not-false}
 use lib.ListN.{length, set}
 use Rattle.basics.proofs.Choice.{or-right, lt-or-le, eq-or-ne}
 use Rattle.address.specs.Rows.{rowY}
@@ -245,8 +245,7 @@ module _ (tall : ℕ → Bool) (row : ℕ) (marks : List Bool) where
   reach-on r t e q n = e ∙ sym q ∙ not-false t n
 
   pub reach-off : (r : ℕ) (t : Bool) → falls r ≡ tall r → t ≡ tall r → not t ≡ true → falls r ≡ false
-  reach-off r true e q n = absurd (false≢true n)
-  reach-off r false e q n = e ∙ sym q
+  reach-off r t e q n = e ∙ sym q ∙ not-true t n
 
   pub reach-left :
       (after : List Bool) (r : ℕ) → after ≡ markedToo (below falls marks r) marks → row < r → falls r ≡ false → after ≡ markedToo falls marks

@@ -63,7 +63,7 @@ fn group_marks(marks: &mut [bool; 25], memory: &[u8], z: u8, yor: u8, first: u8,
     }
 }
 
-// The service row, where it is marked or the keys fit it. Its mark is not asked before: most often it does not have the character.
+// The service row, if the keys fit it. Its mark is looked at last, since most often it does not have the character.
 fn service_marks(marks: &mut [bool; 25], memory: &[u8], z: u8, keys: Keys)
     requires { ⌜ (length (now marks) ≡ 25) × (length (now memory) ≡ memoryBytes) × (z < boardBlocks) × (keysHigh keys ≡ true) ⌝ }
     ensures { λ _. ⌜ now (marks .exit) ≡ markedToo (λ r. eqb r 0 && keyedAt keys (now (memory .entry)) z 0) (now (marks .entry)) ⌝ }

@@ -6,7 +6,7 @@ use mathlib.Core.Bool.{Bool, true, false, not, _&&_}
 use mathlib.Core.List.{List}
 use native.Mathlib.Omega.{arith}
 use lib.Dec.{leb}
-use borrow.Author.Tests.{leb-true, le-leb, lt-leb}
+use borrow.Author.Tests.{leb-true, le-leb, lt-leb, not-true}
 use Rattle.basics.specs.Below.{anyBelow}
 use Rattle.basics.proofs.Choice.{and-left, and-right}
 use Rattle.address.specs.Rows.{rowY}
@@ -41,9 +41,5 @@ module _ (m : List ℕ) (z y : ℕ) (before : Bool) where
   quiet-still yor r t e on ey n k l =
       let rest = and-right (not before) _ (sym e ∙ on) in
       let low = leb-true y 28 (and-left _ _ rest) in
-      ap (flashAt m z) (row-next yor r k n (omega (arith, ey)) ∙ ap (λ (a : ℕ). a + k) (sym ey))
-      ∙ none-flashes m z y 4 looks refl (quiet looks (and-right (leb y 28) _ rest)) k l
-    where
-      quiet : (a : Bool) → not a ≡ true → a ≡ false
-      quiet false q = refl
-      quiet true q = sym q
+      ap (flashAt m z) (row-next yor r k n (omega arith) ∙ ap (λ (a : ℕ). a + k) (sym ey))
+      ∙ none-flashes m z y 4 looks refl (not-true looks (and-right (leb y 28) _ rest)) k l

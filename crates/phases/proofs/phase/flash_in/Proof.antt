@@ -56,7 +56,7 @@ row-y-requires : tie.Need-row-y-requires Inv-loop μ-loop
 row-y-requires c κs = search needs
 
 are-quiet-requires : tie.Need-are-quiet-requires Inv-loop μ-loop
-are-quiet-requires c κs = (search needs, search needs, omega (arith, c .row-y .ensures, row-from-one (c .before .before .before .before .before .before .before .args .yor) (1 + 4 * c .before .before .before .loop .g) (λ e. omega arith)))
+are-quiet-requires c κs = (search needs, search needs, omega (arith, row-from-one (c .before .before .before .before .before .before .before .args .yor) (1 + 4 * c .before .before .before .loop .g) (λ e. omega arith)))
 
 four-flash-requires : tie.Need-four-flash-requires Inv-loop μ-loop
 four-flash-requires c κs = (ap length (c .before .before .before .before .before .before .loop .inv .1) ∙ marked-long _ _, search needs, search needs, omega arith)
