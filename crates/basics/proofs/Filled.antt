@@ -9,7 +9,7 @@ use native.Mathlib.Nat.{mul-zero, mul-suc, mul-le-mul-left, one-mul}
 use native.Mathlib.Numerals.{add-one}
 use native.Mathlib.Omega.{arith}
 use lib.ListN.{length, getD, set, take, drop, length-append, length-drop, take-append-drop, drop-of-length-le}
-use lib.Seq.{take-at, drop-at, drop-drop, take-suc, take-suc-set, take-all, length-take-le, getD-take, ext-getD, sets-eq}
+use lib.Seq.{take-at, drop-at, drop-drop, take-suc, take-suc-set, take-all, take-append-le, take-append-add, length-take-le, getD-take, ext-getD, sets, sets-eq}
 use borrow.Rule.Slice.PartMut.{putMid, midOf, same-len-mid}
 use Rattle.basics.specs.Parts.{joined, table, partOf}
 use Rattle.basics.proofs.Few.{four}
@@ -118,6 +118,22 @@ module _ {A : Type 0} where
       ∙ ap (λ (z : List A). joined part i ++ (vs ++ z))
       (sym (drop-drop 4 (4 * i) (filled 4 part xs₀ i)) ∙ ap (drop 4) (drop-at (joined part i) (drop (4 * i) xs₀) (4 * i) long) ∙ drop-drop 4 (4 * i) xs₀)
       ∙ seam 4 part xs₀ vs i whole)
+
+  -- a turn that stores the part, and perhaps more behind it, where a later turn stores its own
+  pub front-stored :
+      (k : ℕ) (part : ℕ → List A) (xs vs : List A) (i : ℕ)
+      → take (k * i) xs ≡ joined part i → take k vs ≡ part i → k ≤ length vs → k * i + length vs ≤ length xs
+      → take (k * (i + 1)) (sets xs (k * i) vs) ≡ joined part (i + 1)
+  front-stored k part xs vs i q e w h =
+      let front : length (take (k * i) xs) ≡ k * i = length-take-le (k * i) xs (omega arith) in
+      let rest : List A = drop (k * i + length vs) xs in
+      let next : k * (i + 1) ≡ length (take (k * i) xs) + k = rw (add-one, mul-suc) (omega arith) in
+      ap (λ (m : ℕ). take m (sets xs (k * i) vs)) next
+      ∙ ap (take (length (take (k * i) xs) + k)) (sets-eq vs xs (k * i) h ∙ append-assoc (take (k * i) xs) vs rest)
+      ∙ take-append-add (take (k * i) xs) (vs ++ rest) k
+      ∙ ap (λ (z : List A). take (k * i) xs ++ z) (take-append-le k vs rest w ∙ e)
+      ∙ ap (λ (z : List A). z ++ part i) q
+      ∙ sym (joined-more part i)
 
   -- a turn that lends the part to a function that leaves src there
   pub front-lent :

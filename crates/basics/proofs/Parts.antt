@@ -1,8 +1,8 @@
--- Laws of a list made of parts: its length, each part, each element, and two lists whose parts agree.
+-- Laws of a list made of parts: its length, each part, each element, two and two of its parts, and two lists whose parts agree.
 -- Assumes nothing.
 use Prim.Native.Nat.{ℕ, zero, suc, _+_, _*_, _≤_, _<_}
 use mathlib.Core.Path.{_≡_, refl, sym, ap, _∙_}
-use mathlib.Core.List.{List, [], _∷_, _++_}
+use mathlib.Core.List.{List, [], _∷_, _++_, append-assoc}
 use mathlib.Core.Logic.{⊎-elim}
 use native.Mathlib.Nat.{not-suc-le-zero, le-of-suc-le-suc, eq-or-lt-of-le, mul-zero, mul-suc, mul-le-mul-left, one-mul}
 use native.Mathlib.Numerals.{add-one}
@@ -40,6 +40,17 @@ module _ {A : Type 0} where
   unfolding joined
   joined-same part other zero e = refl
   joined-same part other (suc n) e = rw (joined-same part other n (λ i l. e i (omega arith)), e n (omega arith))
+
+  -- twice as many parts, two and two together
+  pub joined-pairs : (part : ℕ → List A) (n : ℕ) → joined part (2 * n) ≡ joined (λ i. part (2 * i) ++ part (2 * i + 1)) n
+  unfolding joined
+  joined-pairs part zero = refl
+  joined-pairs part (suc n) =
+      let e : 2 * suc n ≡ suc (suc (2 * n)) = omega arith in
+      ap (joined part) e
+      ∙ append-assoc (joined part (2 * n)) (part (2 * n)) (part (suc (2 * n)))
+      ∙ ap (λ (m : ℕ). joined part (2 * n) ++ (part (2 * n) ++ part m)) (sym (add-one (2 * n)))
+      ∙ ap (λ (l : List A). l ++ (part (2 * n) ++ part (2 * n + 1))) (joined-pairs part n)
 
   -- a list is its parts
   pub parts-joined : (k : ℕ) (xs : List A) (n : ℕ) → k * n ≤ length xs → joined (partOf k xs) n ≡ take (k * n) xs

@@ -14,7 +14,7 @@ use Rattle.basics.proofs.Choice.{pick-known}
 use Rattle.basics.proofs.Filled.{filled, length-filled}
 use Rattle.basics.proofs.Parts.{length-joined, joined-front, table-at, joined-same}
 use Rattle.shown.specs.declared.Shown.{Shown}
-use Rattle.shown.specs.Lengths.{columnBytes, lineBytes}
+use Rattle.shown.specs.Lengths.{fortyBytes, lineBytes}
 use Rattle.cell.specs.declared.kind.Cell.{Cell}
 use Rattle.pixels.specs.Slices.{sliceShown}
 use Rattle.pixels.specs.Pixels.{takenBit, cellLine}
@@ -26,31 +26,31 @@ use Rattle.page.specs.Inputs.{decoded}
 use Rattle.columns.specs.HowColumns.{byteIn}
 use Rattle.columns.specs.HowTens.{takenAt, tenOf, tenAt, tensOf, fromSteps, pairsAt, pairsOf}
 use Rattle.lines.specs.HowLines.{linedByte, byteOn, bytesOn, fourOf, lineOn}
-use Rattle.lines.proofs.Lengths.{columns-long}
+use Rattle.shown.proofs.Lengths.{columns-long}
 use Rattle.columns.proofs.Columns.{side-at, side-column}
 use Rattle.columns.proofs.Steps.{steps-four, pairs-back}
 use Rattle.columns.proofs.Tens.{slice-small}
 
 -- a packed line of forty columns
-pub line-long : (cells : List (List ℕ)) (lowers : List Bool) (tens pairs : List ℕ) (n : ℕ) → length (lineOn cells lowers tens pairs n) ≡ lineBytes columnBytes
+pub line-long : (cells : List (List ℕ)) (lowers : List Bool) (tens pairs : List ℕ) (n : ℕ) → length (lineOn cells lowers tens pairs n) ≡ lineBytes fortyBytes
 unfolding lineOn
-line-long cells lowers tens pairs n = columns-long columnBytes _ (λ x l. four-long _ _)
+line-long cells lowers tens pairs n = columns-long fortyBytes _ (λ x l. four-long _ _)
 
 -- a line of which 32 cells are packed
-module _ (bytes pairs line : List ℕ) (begun : line ≡ filled columnBytes (fourOf bytes pairs) (replicate (lineBytes columnBytes) 0) 32) where
-  pub begun-long : length line ≡ lineBytes columnBytes
+module _ (bytes pairs line : List ℕ) (begun : line ≡ filled fortyBytes (fourOf bytes pairs) (replicate (lineBytes fortyBytes) 0) 32) where
+  pub begun-long : length line ≡ lineBytes fortyBytes
   begun-long =
-      let h : columnBytes * 32 ≤ lineBytes columnBytes = omega arith in
-      ap length begun ∙ length-filled columnBytes (fourOf bytes pairs) (replicate (lineBytes columnBytes) 0) 32 (λ x l. four-long _ _) h
+      let h : fortyBytes * 32 ≤ lineBytes fortyBytes = omega arith in
+      ap length begun ∙ length-filled fortyBytes (fourOf bytes pairs) (replicate (lineBytes fortyBytes) 0) 32 (λ x l. four-long _ _) h
 
   -- the third vector begins at any cell of these
-  pub begun-front : (i : ℕ) → i ≤ 32 → take (columnBytes * i) line ≡ joined (fourOf bytes pairs) i
+  pub begun-front : (i : ℕ) → i ≤ 32 → take (fortyBytes * i) line ≡ joined (fourOf bytes pairs) i
   begun-front i h =
       let packed = joined (fourOf bytes pairs) 32 in
-      let long : length packed ≡ columnBytes * 32 = length-joined columnBytes (fourOf bytes pairs) 32 (λ j l. four-long _ _) in
-      ap (take (columnBytes * i)) begun
-      ∙ take-append-le (columnBytes * i) packed (drop (columnBytes * 32) (replicate (lineBytes columnBytes) 0)) (omega arith)
-      ∙ joined-front columnBytes (fourOf bytes pairs) 32 (λ j l. four-long _ _) i h
+      let long : length packed ≡ fortyBytes * 32 = length-joined fortyBytes (fourOf bytes pairs) 32 (λ j l. four-long _ _) in
+      ap (take (fortyBytes * i)) begun
+      ∙ take-append-le (fortyBytes * i) packed (drop (fortyBytes * 32) (replicate (lineBytes fortyBytes) 0)) (omega arith)
+      ∙ joined-front fortyBytes (fourOf bytes pairs) 32 (λ j l. four-long _ _) i h
 
 module _ (shown : Shown) (code : List ℕ) (lower right : Bool) (n s : ℕ) where
   -- the byte that the code chooses pairs by is the effective byte

@@ -5,7 +5,7 @@ ghost use Prim.Native.Nat.{_+_, _*_, _%_, _≤_};
 ghost use lib.ListN.{length, getD, take, drop};
 ghost use Rattle.basics.specs.Choice.{pick};
 ghost use Rattle.basics.specs.Parts.{joined};
-ghost use Rattle.shown.specs.Lengths.{columnBytes, lineBytes};
+ghost use Rattle.shown.specs.Lengths.{fortyBytes, lineBytes};
 ghost use Rattle.pixels.specs.HowPairs.{fourBy};
 ghost use Rattle.columns.specs.HowTens.{fromSteps};
 ghost use Rattle.lines.specs.HowLines.{fourOf};
@@ -42,8 +42,8 @@ fn four(by: u8, none: u8, left: u8, right: u8, both: u8) -> [u8; 4]
 
 // The packed bytes of the cells from `first` up to `end`, put in their places of a line that has those of the cells before them.
 fn pack(line: &mut [u8; 160], bytes: [u8; 40], pairs: &[u8; 160], first: usize, end: usize)
-    requires { ⌜ (length (now line) ≡ lineBytes columnBytes) × (first ≤ end) × (end ≤ 40) × (take (columnBytes * first) (now line) ≡ joined (fourOf bytes (now pairs)) first) ⌝ }
-    ensures { λ _. ⌜ now (line .exit) ≡ joined (fourOf bytes (now (pairs .entry))) end ++ drop (columnBytes * end) (now (line .entry)) ⌝ }
+    requires { ⌜ (length (now line) ≡ lineBytes fortyBytes) × (first ≤ end) × (end ≤ 40) × (take (fortyBytes * first) (now line) ≡ joined (fourOf bytes (now pairs)) first) ⌝ }
+    ensures { λ _. ⌜ now (line .exit) ≡ joined (fourOf bytes (now (pairs .entry))) end ++ drop (fortyBytes * end) (now (line .entry)) ⌝ }
 {
     for x in first..end {
         let four = four(

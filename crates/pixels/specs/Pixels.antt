@@ -7,7 +7,7 @@ use lib.Dec.{eqb}
 use Rattle.basics.specs.Choice.{pick, oneIf}
 use Rattle.basics.specs.Bits.{bits, isSet}
 use Rattle.shown.specs.declared.Shown.{Shown}
-use Rattle.shown.specs.Lengths.{columnBytes}
+use Rattle.shown.specs.Lengths.{fortyBytes}
 use Rattle.colour.specs.declared.Colour.{Colour}
 use Rattle.colour.specs.Colours.{packedLine}
 use Rattle.colour.specs.Ranks.{colourOfRank}
@@ -58,4 +58,4 @@ cellPixel (Quadrichrome cell) shown right n s x = quadrichromePixel cell s x
 
 -- the packed bytes of a cell's line
 unfoldable pub cellLine : Cell → Shown → Bool → ℕ → ℕ → List ℕ
-cellLine cell shown right n s = packedLine (cellPixel cell shown right n s) columnBytes
+cellLine cell shown right n s = packedLine (cellPixel cell shown right n s) fortyBytes

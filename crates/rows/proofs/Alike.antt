@@ -7,7 +7,7 @@ use mathlib.Core.List.{List}
 use lib.ListN.{getD}
 use Rattle.basics.proofs.Parts.{joined-same, table-same}
 use Rattle.shown.specs.declared.Shown.{Shown}
-use Rattle.shown.specs.Lengths.{columnBytes}
+use Rattle.shown.specs.Lengths.{fortyBytes}
 use Rattle.colour.specs.Colours.{packedOf}
 use Rattle.cell.specs.declared.kind.Cell.{Cell}
 use Rattle.cell.specs.declared.kind.Cell.the-variants.{Bichrome, Quadrichrome}
@@ -29,7 +29,7 @@ module _ (a b : Shown) where
     line-alike : (cell : Cell) → Alike cell → cellLine cell a right n s ≡ cellLine cell b right n s
     unfolding cellLine
     line-alike cell h =
-        table-same _ _ columnBytes (λ i l. ap₂ packedOf (pixel-alike cell h (2 * i)) (pixel-alike cell h (2 * i + 1)))
+        table-same _ _ fortyBytes (λ i l. ap₂ packedOf (pixel-alike cell h (2 * i)) (pixel-alike cell h (2 * i + 1)))
 
   pub painted-alike :
       (rom : List ℕ) (inputs : List CellInput) → ((x : ℕ) → x < 40 → Alike (decoded (getD inputs x noInput .code))) → painted rom a inputs ≡ painted rom b inputs

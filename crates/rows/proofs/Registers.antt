@@ -1,4 +1,4 @@
--- Which registers a row looks at: DOR and ROR for what it takes from private memory, PAT and the phase for its pixels. TGS and MAT do not
+-- Which registers a row of 40 columns looks at: DOR and ROR for what it takes from private memory, PAT and the phase for its pixels. TGS and MAT do not
 -- matter, nor does the phase where no cell flashes.
 -- Assumes nothing.
 use Prim.Native.Nat.{ℕ}
@@ -16,7 +16,7 @@ use Rattle.pixels.specs.Pixels.{concealed, flashed}
 use Rattle.page.specs.Codes.{codeAt}
 use Rattle.sources.specs.Sources.{setSource, cellSource}
 use Rattle.page.specs.Inputs.{CellInput, decoded, cellInput, noInput, rowInput}
-use Rattle.rows.specs.Rows.{painted, rowOf}
+use Rattle.rows.specs.Rows.{painted, fortyRow}
 use Rattle.rows.proofs.Alike.{Alike, painted-alike}
 use Rattle.rows.proofs.Phases.{anyFlashes, painted-steady}
 
@@ -51,13 +51,13 @@ module _ (a b : Shown) (pat : a .pat ≡ b .pat) (phase : a .phase ≡ b .phase)
 
 -- a row, by these four
 pub row-ignores :
-    (a b : Shown) → a .pat ≡ b .pat → a .dor ≡ b .dor → a .ror ≡ b .ror → a .phase ≡ b .phase → (m rom : List ℕ) (r : ℕ) → rowOf m rom a r ≡ rowOf m rom b r
+    (a b : Shown) → a .pat ≡ b .pat → a .dor ≡ b .dor → a .ror ≡ b .ror → a .phase ≡ b .phase → (m rom : List ℕ) (r : ℕ) → fortyRow m rom a r ≡ fortyRow m rom b r
 row-ignores a b pat dor ror phase m rom r =
     painted-ignores a b pat phase rom (rowInput a m r) ∙ ap (painted rom b) (input-ignores a b dor ror m r)
 
 -- two records that differ in the phase
 pub row-steady :
     (a b : Shown) → a .pat ≡ b .pat → a .dor ≡ b .dor → a .ror ≡ b .ror → (m rom : List ℕ) (r : ℕ)
-    → anyFlashes (rowInput a m r) ≡ false → rowOf m rom a r ≡ rowOf m rom b r
+    → anyFlashes (rowInput a m r) ≡ false → fortyRow m rom a r ≡ fortyRow m rom b r
 row-steady a b pat dor ror m rom r none =
     painted-steady a b pat rom (rowInput a m r) none ∙ ap (painted rom b) (input-ignores a b dor ror m r)

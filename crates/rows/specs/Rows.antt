@@ -1,4 +1,4 @@
--- A row: ten packed lines of forty cells, from all that it takes from private memory, the ROM, PAT and the phase.
+-- A row in 40 columns: ten packed lines of forty cells, from all that it takes from private memory, the ROM, PAT and the phase.
 -- Assumes nothing.
 use Prim.Native.Nat.{ℕ}
 use mathlib.Core.Bool.{Bool}
@@ -28,6 +28,6 @@ paintedLine rom shown inputs n = joined (λ x. paintedCell rom shown n (getD inp
 unfoldable pub painted : List ℕ → Shown → List CellInput → List ℕ
 painted rom shown inputs = joined (paintedLine rom shown inputs) 10
 
--- screen row r
-abbrev pub rowOf : List ℕ → List ℕ → Shown → ℕ → List ℕ
-rowOf m rom shown r = painted rom shown (rowInput shown m r)
+-- screen row r in 40 columns
+abbrev pub fortyRow : List ℕ → List ℕ → Shown → ℕ → List ℕ
+fortyRow m rom shown r = painted rom shown (rowInput shown m r)

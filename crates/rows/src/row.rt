@@ -3,7 +3,7 @@ ghost use mathlib.Core.Path.{_≡_};
 ghost use lib.ListN.{length};
 ghost use Rattle.basics.specs.Parts.{table, joined};
 ghost use Rattle.address.specs.Boards.{memoryBytes};
-ghost use Rattle.shown.specs.Lengths.{romBytes, columnBytes, lineBytes, rowBytes};
+ghost use Rattle.shown.specs.Lengths.{romBytes, fortyBytes, lineBytes, rowBytes};
 ghost use Rattle.page.specs.HowHalves.{rightIn};
 ghost use Rattle.lines.specs.HowLines.{lineOn};
 ghost use Rattle.rows.specs.Rows.{painted};
@@ -15,7 +15,7 @@ use shown::Shown;
 use shown::length::LINE_BYTES;
 
 fn copy_line(part: &mut [u8], line: [u8; 160])
-    requires { ⌜ length (now part) ≡ lineBytes columnBytes ⌝ }
+    requires { ⌜ length (now part) ≡ lineBytes fortyBytes ⌝ }
     ensures { λ _. ⌜ now (part .exit) ≡ line ⌝ }
 {
     for i in 0..LINE_BYTES {
@@ -32,7 +32,7 @@ fn draw_lines(
     tens: &[u8; 400],
     pairs: &[u8; 160],
 )
-    requires { ⌜ length (now part) ≡ rowBytes columnBytes ⌝ }
+    requires { ⌜ length (now part) ≡ rowBytes fortyBytes ⌝ }
     ensures { λ _. ⌜ now (part .exit) ≡ joined (lineOn cells lowers (now (tens .entry)) (now (pairs .entry))) 10 ⌝ }
 {
     for n in 0..10 {
@@ -54,7 +54,7 @@ pub fn draw_row(
     lowers: [bool; 40],
     rights: [bool; 40],
 )
-    requires { ⌜ (length (now part) ≡ rowBytes columnBytes) × (length (now memory) ≡ memoryBytes) × (length (now rom) ≡ romBytes) × (rights ≡ table (rightIn cells) 40) ⌝ }
+    requires { ⌜ (length (now part) ≡ rowBytes fortyBytes) × (length (now memory) ≡ memoryBytes) × (length (now rom) ≡ romBytes) × (rights ≡ table (rightIn cells) 40) ⌝ }
     ensures { λ _. ⌜ now (part .exit) ≡ painted (now (rom .entry)) shown (inputsOf (now (memory .entry)) shown cells lowers) ⌝ }
 {
     let tens = tens_of(memory, rom, shown, cells, lowers, rights);

@@ -1,35 +1,104 @@
--- Laws of the refusals: the bits of TGS and PAT as comparisons.
+-- Laws of the refusals: the bits of TGS and PAT as comparisons, and the length that 6 asks for.
 -- Assumes nothing.
-use Prim.Native.Nat.{ℕ, _≤_, _<_}
+use Prim.Native.Nat.{ℕ, _+_, _*_, _/_, _≤_, _<_}
 use mathlib.Core.Path.{_≡_, sym, ap, _∙_}
-use mathlib.Core.Bool.{Bool, true, false, not, _||_}
-use lib.Dec.{ltb, leb}
-use borrow.Author.Tests.{le-leb, lt-leb}
+use mathlib.Core.Bool.{Bool, true, false, not, _&&_, _||_}
+use lib.Dec.{ltb, leb, eqb}
+use native.Mathlib.Omega.{arith}
+use borrow.Author.Tests.{le-leb, lt-leb, eq-eqb, ne-eqb}
 use Rattle.basics.specs.Bits.{isSet}
+use Rattle.basics.specs.Choice.{pick}
+use Rattle.basics.proofs.Choice.{pick-known}
 use Rattle.basics.proofs.Computed.{agree-test}
 use Rattle.shown.specs.declared.Shown.{Shown}
+use Rattle.shown.specs.Lengths.{fortyBytes, eightyBytes, pictureBytes}
+use Rattle.shown.specs.Modes.{isEighty, columnBytes}
 use Rattle.shown.specs.Origins.{yorOf}
 use Rattle.shown.specs.Refusals.{refused7, refused8, canDraw}
+use Rattle.shown.proofs.Modes.{eighty-test, eighty-bytes, forty-bytes}
 
--- TGS bits 7, 6 or 5
-tgs-bits : (p : Bool) (tgs : ℕ) → tgs < 256 → (isSet 7 tgs || (isSet 6 tgs || (isSet 5 tgs || p))) ≡ (leb 32 tgs || p)
-tgs-bits true = agree-test (λ tgs. isSet 7 tgs || (isSet 6 tgs || (isSet 5 tgs || true))) (λ tgs. leb 32 tgs || true) 256 tt
-tgs-bits false = agree-test (λ tgs. isSet 7 tgs || (isSet 6 tgs || (isSet 5 tgs || false))) (λ tgs. leb 32 tgs || false) 256 tt
+-- what TGS says of 7: bits 7 and 6 one without the other, or bit 5
+tgs-bits :
+    (p : Bool) (tgs : ℕ) → tgs < 256
+    → pick (isSet 7 tgs && isSet 6 tgs) (isSet 5 tgs || p) (isSet 7 tgs || (isSet 6 tgs || (isSet 5 tgs || p))) ≡ ((leb 32 tgs && not (eqb (tgs / 32) 6)) || p)
+tgs-bits true =
+    agree-test (λ tgs. pick (isSet 7 tgs && isSet 6 tgs) (isSet 5 tgs || true) (isSet 7 tgs || (isSet 6 tgs || (isSet 5 tgs || true))))
+    (λ tgs. (leb 32 tgs && not (eqb (tgs / 32) 6)) || true) 256 tt
+tgs-bits false =
+    agree-test (λ tgs. pick (isSet 7 tgs && isSet 6 tgs) (isSet 5 tgs || false) (isSet 7 tgs || (isSet 6 tgs || (isSet 5 tgs || false))))
+    (λ tgs. (leb 32 tgs && not (eqb (tgs / 32) 6)) || false) 256 tt
 
 -- PAT bit 7
 pat-bit : (pat : ℕ) → pat < 256 → isSet 7 pat ≡ leb 128 pat
 pat-bit = agree-test (λ pat. isSet 7 pat) (λ pat. leb 128 pat) 256 tt
 
 module _ (shown : Shown) where
-  refused-test : shown .tgs < 256 → shown .pat < 256 → (leb 32 (shown .tgs) || leb 128 (shown .pat)) ≡ refused7 shown
-  unfolding refused7
-  refused-test h k = sym (tgs-bits (isSet 7 (shown .pat)) (shown .tgs) h ∙ ap (λ (t : Bool). leb 32 (shown .tgs) || t) (pat-bit (shown .pat) k))
+  module _ (h : shown .tgs < 256) (k : shown .pat < 256) where
+    refused-test : ((leb 32 (shown .tgs) && not (eqb (shown .tgs / 32) 6)) || leb 128 (shown .pat)) ≡ refused7 shown
+    unfolding refused7 isEighty
+    refused-test =
+        sym (tgs-bits (isSet 7 (shown .pat)) (shown .tgs) h
+        ∙ ap (λ (t : Bool). (leb 32 (shown .tgs) && not (eqb (shown .tgs / 32) 6)) || t) (pat-bit (shown .pat) k))
 
-  pub refused-tgs : shown .tgs < 256 → shown .pat < 256 → 32 ≤ shown .tgs → true ≡ refused7 shown
-  refused-tgs h k l = sym (ap (λ (t : Bool). t || leb 128 (shown .pat)) (le-leb 32 (shown .tgs) l)) ∙ refused-test h k
+    -- no mode
+    refused-tgs : 32 ≤ shown .tgs → (shown .tgs / 32 ≡ 6 → ⊥) → true ≡ refused7 shown
+    refused-tgs l n = sym (rw (le-leb 32 (shown .tgs) l, ne-eqb (shown .tgs / 32) 6 n)) ∙ refused-test
 
-  pub refused-pat : shown .tgs < 256 → shown .pat < 256 → shown .tgs < 32 → leb 128 (shown .pat) ≡ refused7 shown
-  refused-pat h k l = sym (ap (λ (t : Bool). t || leb 128 (shown .pat)) (lt-leb 32 (shown .tgs) l)) ∙ refused-test h k
+    -- either mode
+    refused-eighty : 32 ≤ shown .tgs → shown .tgs / 32 ≡ 6 → leb 128 (shown .pat) ≡ refused7 shown
+    refused-eighty l e = sym (rw (le-leb 32 (shown .tgs) l, eq-eqb (shown .tgs / 32) 6 e)) ∙ refused-test
+
+    refused-forty : shown .tgs < 32 → leb 128 (shown .pat) ≡ refused7 shown
+    refused-forty l = sym (rw (lt-leb 32 (shown .tgs) l)) ∙ refused-test
+
+    -- the length that 6 asks for, in the ways of the code
+    abbrev asks : ℕ → Type 0
+    asks n = n ≡ pick (refused7 shown) 0 (pictureBytes (columnBytes shown))
+
+    nothing : refused7 shown ≡ true → asks 0
+    nothing e = rw e
+
+    pub asks-forty : shown .tgs < 32 → shown .pat < 128 → asks (pictureBytes fortyBytes)
+    asks-forty l p =
+        let no = sym (refused-forty l) ∙ lt-leb 128 (shown .pat) p in
+        let forty = sym (eighty-test shown h) ∙ lt-leb 192 (shown .tgs) (omega arith) in
+        rw (no, forty-bytes shown forty)
+
+    pub asks-eighty : 32 ≤ shown .tgs → shown .tgs / 32 ≡ 6 → shown .pat < 128 → asks (pictureBytes eightyBytes)
+    asks-eighty l e p =
+        let no = sym (refused-eighty l e) ∙ lt-leb 128 (shown .pat) p in
+        let eighty = sym (eighty-test shown h) ∙ le-leb 192 (shown .tgs) (omega arith) in
+        rw (no, eighty-bytes shown eighty)
+
+    pub asks-no-mode : 32 ≤ shown .tgs → (shown .tgs / 32 ≡ 6 → ⊥) → asks 0
+    asks-no-mode l n = nothing (sym (refused-tgs l n))
+
+    pub asks-forty-refused : shown .tgs < 32 → 128 ≤ shown .pat → asks 0
+    asks-forty-refused l p = nothing (sym (refused-forty l) ∙ le-leb 128 (shown .pat) p)
+
+    pub asks-eighty-refused : 32 ≤ shown .tgs → shown .tgs / 32 ≡ 6 → 128 ≤ shown .pat → asks 0
+    asks-eighty-refused l e p = nothing (sym (refused-eighty l e) ∙ le-leb 128 (shown .pat) p)
+
+  -- no picture is of length 0, so 0 says 7
+  some-length : 0 < pictureBytes (columnBytes shown)
+  some-length = pick-known (λ (k : ℕ). 0 < pictureBytes k) (isEighty shown) eightyBytes fortyBytes (λ e. omega arith) (λ e. omega arith)
+
+  module _ (n : ℕ) (learnt : n ≡ pick (refused7 shown) 0 (pictureBytes (columnBytes shown))) where
+    pub asked-test : eqb n 0 ≡ refused7 shown
+    asked-test = go (refused7 shown) learnt
+      where
+        go : (b : Bool) → n ≡ pick b 0 (pictureBytes (columnBytes shown)) → eqb n 0 ≡ b
+        go true e = eq-eqb n 0 e
+        go false e = ne-eqb n 0 (λ z. omega (arith, e, some-length))
+
+    pub asked-none : n ≡ 0 → refused7 shown ≡ true
+    asked-none e = sym asked-test ∙ eq-eqb n 0 e
+
+    pub asked-some : (n ≡ 0 → ⊥) → refused7 shown ≡ false
+    asked-some e = sym asked-test ∙ ne-eqb n 0 e
+
+    pub asked-length : (n ≡ 0 → ⊥) → n ≡ pictureBytes (columnBytes shown)
+    asked-length e = learnt ∙ rw (asked-some e)
 
   pub low-origin : (yor : ℕ) → yor ≡ yorOf shown → ltb yor 8 ≡ refused8 shown
   unfolding refused8
@@ -46,5 +115,5 @@ module _ (shown : Shown) where
 
 -- what decides whether a draw would get 7 or 8
 pub can-draw-same : (a b : Shown) → a .tgs ≡ b .tgs → a .pat ≡ b .pat → a .ror ≡ b .ror → canDraw a ≡ canDraw b
-unfolding refused7 refused8 canDraw
+unfolding isEighty refused7 refused8 canDraw
 can-draw-same a b tgs pat ror = rw (tgs, pat, ror)

@@ -7,18 +7,22 @@ use Prim.Native.Nat.{ℕ, _*_}
 abbrev pub romBytes : ℕ
 romBytes = 5 * 1280
 
--- a column is a cell of eight pixels, two pixels a byte
-abbrev pub columnBytes : ℕ
-columnBytes = 4
+-- in 40 columns a column is a cell of eight pixels, two pixels a byte
+abbrev pub fortyBytes : ℕ
+fortyBytes = 4
 
--- One packed line is 160 bytes: forty columns
+-- in 80 columns it is two cells of six pixels
+abbrev pub eightyBytes : ℕ
+eightyBytes = 2 * 3
+
+-- One packed line is 160 bytes, or 240: forty columns
 abbrev pub lineBytes : ℕ → ℕ
 lineBytes k = 40 * k
 
--- A row is 1,600 bytes: ten lines
+-- A row is 1,600 bytes, or 2,400: ten lines
 abbrev pub rowBytes : ℕ → ℕ
 rowBytes k = 10 * lineBytes k
 
--- 6: picture is not 40,000 bytes: 25 rows
+-- 6: picture is not 40,000 bytes, or 60,000: 25 rows
 abbrev pub pictureBytes : ℕ → ℕ
 pictureBytes k = 25 * rowBytes k

@@ -1,3 +1,4 @@
 pub mod Lengths
+pub mod Modes
 pub mod Origins
 pub mod Refusals

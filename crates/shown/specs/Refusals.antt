@@ -3,12 +3,16 @@
 use mathlib.Core.Bool.{Bool, not, _&&_, _||_}
 use lib.Dec.{ltb}
 use Rattle.basics.specs.Bits.{isSet}
+use Rattle.basics.specs.Choice.{pick}
 use Rattle.shown.specs.declared.Shown.{Shown}
+use Rattle.shown.specs.Modes.{isEighty}
 use Rattle.shown.specs.Origins.{yorOf}
 
--- 7: TGS bits 7, 6 or 5, or PAT bit 7, not zero
+-- 7: TGS bits 7, 6 or 5, or PAT bit 7, not zero; with TGS 7 and 6 both set, it looks only at TGS 5 and PAT 7
 unfoldable pub refused7 : Shown → Bool
-refused7 shown = isSet 7 (shown .tgs) || (isSet 6 (shown .tgs) || (isSet 5 (shown .tgs) || isSet 7 (shown .pat)))
+refused7 shown =
+    pick (isEighty shown) (isSet 5 (shown .tgs) || isSet 7 (shown .pat))
+    (isSet 7 (shown .tgs) || (isSet 6 (shown .tgs) || (isSet 5 (shown .tgs) || isSet 7 (shown .pat))))
 
 -- 8: origin YOR below 8
 unfoldable pub refused8 : Shown → Bool

@@ -2,8 +2,13 @@
 pub mod length;
 
 ghost use mathlib.Core.Path.{_≡_};
+ghost use Rattle.basics.specs.Choice.{pick};
+ghost use Rattle.shown.specs.Modes.{isEighty, columnBytes};
+ghost use Rattle.shown.specs.Lengths.{pictureBytes};
 ghost use Rattle.shown.specs.Origins.{yorOf, firstBlock};
 ghost use Rattle.shown.specs.Refusals.{refused7, refused8, canDraw};
+use crate::length::EIGHTY_PICTURE_BYTES;
+use crate::length::PICTURE_BYTES;
 
 pub struct Shown {
     pub tgs: u8,
@@ -15,6 +20,32 @@ pub struct Shown {
 }
 
 impl Shown {
+    // TGS bits 7 and 6 both set.
+    pub fn is_eighty(self) -> bool
+        ensures { λ r. ⌜ r ≡ isEighty self ⌝ }
+    {
+        192 <= self.tgs
+    }
+
+    // The length that 6 asks for: that of the mode, or 0 where 7 comes first. One way through for each mode, so that a draw asks for both at once.
+    pub fn picture_asked(self) -> usize
+        ensures { λ r. ⌜ r ≡ pick (refused7 self) 0 (pictureBytes (columnBytes self)) ⌝ }
+    {
+        if self.tgs < 32 {
+            if 128 <= self.pat {
+                return 0;
+            }
+            return PICTURE_BYTES;
+        }
+        if self.tgs / 32 != 6 {
+            return 0;
+        }
+        if 128 <= self.pat {
+            return 0;
+        }
+        EIGHTY_PICTURE_BYTES
+    }
+
     // The origin, ROR bits 4..0.
     pub fn yor(self) -> u8
         ensures { λ r. ⌜ r ≡ yorOf self ⌝ }
@@ -32,10 +63,7 @@ impl Shown {
     pub fn is_refused_7(self) -> bool
         ensures { λ r. ⌜ r ≡ refused7 self ⌝ }
     {
-        if 32 <= self.tgs {
-            return true;
-        }
-        128 <= self.pat
+        self.picture_asked() == 0
     }
 
     pub fn is_refused_8(self) -> bool

@@ -1,4 +1,4 @@
-use Rattle.shown.specs.Lengths.{columnBytes, lineBytes}
+use Rattle.shown.specs.Lengths.{fortyBytes, lineBytes}
 use Rattle.pixels.proofs.Drawn.{four-long}
 use Rattle.lines.specs.HowLines.{fourOf}
 use Rattle.basics.proofs.Filled.{filled, filled-four}
@@ -12,7 +12,7 @@ use Rattle.lines.proofs.pack.pack.Statement.{statement}
 use Rattle.lines.proofs.pack.pack.Tie as tie
 
 abbrev Inv-loop : tie.InvT-loop
-Inv-loop line₀ pairs first end bytes x₀ line x = (x ≤ end) × (end ≤ 40) × (length line ≡ lineBytes columnBytes) × (line ≡ filled columnBytes (fourOf bytes pairs) line₀ x)
+Inv-loop line₀ pairs first end bytes x₀ line x = (x ≤ end) × (end ≤ 40) × (length line ≡ lineBytes fortyBytes) × (line ≡ filled fortyBytes (fourOf bytes pairs) line₀ x)
 
 abbrev μ-loop : tie.MeasureT-loop
 μ-loop line₀ pairs first end bytes x₀ line x = end - x
@@ -23,7 +23,7 @@ loop-holds c = let p = c .pre in
       p .1,
       p .2,
       p .0,
-      sym (take-append-drop (columnBytes * a .first) (a .line .now)) ∙ ap (λ (z : List ℕ). z ++ drop (columnBytes * a .first) (a .line .now)) (p .3),
+      sym (take-append-drop (fortyBytes * a .first) (a .line .now)) ∙ ap (λ (z : List ℕ). z ++ drop (fortyBytes * a .first) (a .line .now)) (p .3),
     )
 
 array-read-four : tie.Need-array-read-four Inv-loop μ-loop
@@ -106,7 +106,7 @@ loop-again c = let l = c .before .before .before .before .before .before .loop i
 returns : tie.Need-returns Inv-loop μ-loop
 returns c = let l = c .before .loop in
     let e : l .x ≡ c .before .before .args .end = omega arith in
-    l .inv .3 ∙ ap (filled columnBytes _ _) e
+    l .inv .3 ∙ ap (filled fortyBytes _ _) e
 
 pub pack-spec : {M : Type 1} → statement M
 pack-spec =

@@ -1,4 +1,4 @@
-use Rattle.shown.specs.Lengths.{columnBytes}
+use Rattle.shown.specs.Lengths.{fortyBytes}
 use Rattle.lines.specs.HowLines.{fourOf}
 use Rattle.lines.proofs.Drawn.{begun-long, begun-front}
 use Rattle.basics.proofs.Filled.{front-none, filled-end}
@@ -22,7 +22,7 @@ pack-requires-2 c κs = let k = c .before in
 returns : tie.Need-returns
 returns c = let k = c .before .before in
     let a = k .before .before .args in
-    filled-end columnBytes (fourOf (a .bytes) (a .pairs .now)) (k .pack .last .0) (c .pack2 .last .0) 40 40 (c .pack2 .ensures) (omega arith) (omega arith)
+    filled-end fortyBytes (fourOf (a .bytes) (a .pairs .now)) (k .pack .last .0) (c .pack2 .last .0) 40 40 (c .pack2 .ensures) (omega arith) (omega arith)
     (begun-long (a .bytes) (a .pairs .now) (k .pack .last .0) (k .pack .ensures))
 
 pub packed-line-spec : {M : Type 1} → statement M

@@ -1,4 +1,4 @@
-use Rattle.shown.specs.Lengths.{columnBytes, lineBytes}
+use Rattle.shown.specs.Lengths.{fortyBytes, lineBytes}
 use lib.ListN.{length}
 use Rattle.basics.proofs.Filled.{copy-set, copy-end}
 use lib.ListN.{length, take, length-set}
@@ -10,10 +10,10 @@ use Rattle.rows.proofs.row.copy_line.Statement.{statement}
 use Rattle.rows.proofs.row.copy_line.Tie as tie
 
 abbrev Inv-loop : tie.InvT-loop
-Inv-loop part₀ line i₀ part i = (i ≤ lineBytes columnBytes) × (length part ≡ lineBytes columnBytes) × (take i part ≡ take i line)
+Inv-loop part₀ line i₀ part i = (i ≤ lineBytes fortyBytes) × (length part ≡ lineBytes fortyBytes) × (take i part ≡ take i line)
 
 abbrev μ-loop : tie.MeasureT-loop
-μ-loop part₀ line i₀ part i = lineBytes columnBytes - i
+μ-loop part₀ line i₀ part i = lineBytes fortyBytes - i
 
 loop-holds : tie.Need-loop-holds Inv-loop μ-loop
 loop-holds c = (omega arith, c .pre, refl)
@@ -32,7 +32,7 @@ loop-less c = omega arith
 
 loop-again : tie.Need-loop-again Inv-loop μ-loop
 loop-again c = let l = c .before .loop in
-    let n : length (c .before .before .args .t2) ≡ lineBytes columnBytes = search needs in
+    let n : length (c .before .before .args .t2) ≡ lineBytes fortyBytes = search needs in
     (omega arith, simp length-set (l .inv .1), copy-set (c .before .before .args .t2) (l .part) (l .i) 0 (l .inv .2) (omega arith) (omega arith))
 
 same-length : tie.Need-same-length Inv-loop μ-loop
@@ -40,8 +40,8 @@ same-length c = search needs
 
 returns : tie.Need-returns Inv-loop μ-loop
 returns c = let l = c .before .loop in
-    let n : length (c .before .before .args .t2) ≡ lineBytes columnBytes = search needs in
-    copy-end _ _ (lineBytes columnBytes) _ (l .inv .2) (l .inv .0) (omega arith) (l .inv .1) n
+    let n : length (c .before .before .args .t2) ≡ lineBytes fortyBytes = search needs in
+    copy-end _ _ (lineBytes fortyBytes) _ (l .inv .2) (l .inv .0) (omega arith) (l .inv .1) n
 
 pub copy-line-spec : {M : Type 1} → statement M
 copy-line-spec =

@@ -1,24 +1,22 @@
-use Rattle.shown.specs.Lengths.{columnBytes, lineBytes, rowBytes}
+use Rattle.shown.proofs.Lines.{LinesTo, no-lines, line-drawn, all-lines}
+use Rattle.shown.specs.Lengths.{fortyBytes}
 use Rattle.lines.proofs.Drawn.{line-long}
 use Rattle.lines.specs.HowLines.{lineOn}
-use Rattle.basics.proofs.Filled.{front-none, front-lent, front-end, part-length}
-use Rattle.basics.specs.Parts.{joined}
-use lib.ListN.{length, take}
 use native.Mathlib.Omega.{arith}
-use mathlib.Core.Path.{_≡_}
-use Prim.Native.Nat.{_≤_, _-_, _*_}
+use mathlib.Core.Path.{_∙_}
+use Prim.Native.Nat.{_-_}
 use borrow.Author.Needs.{needs}
 use Rattle.rows.proofs.row.draw_lines.Statement.{statement}
 use Rattle.rows.proofs.row.draw_lines.Tie as tie
 
 abbrev Inv-loop : tie.InvT-loop
-Inv-loop part₀ cells lowers tens pairs n₀ part n = (n ≤ 10) × (length part ≡ rowBytes columnBytes) × (take (lineBytes columnBytes * n) part ≡ joined (lineOn cells lowers tens pairs) n)
+Inv-loop part₀ cells lowers tens pairs n₀ part n = LinesTo fortyBytes (lineOn cells lowers tens pairs) part n
 
 abbrev μ-loop : tie.MeasureT-loop
 μ-loop part₀ cells lowers tens pairs n₀ part n = 10 - n
 
 loop-holds : tie.Need-loop-holds Inv-loop μ-loop
-loop-holds c = (omega arith, c .before .pre, front-none _)
+loop-holds c = no-lines _ _ _ (c .before .pre)
 
 line-requires : tie.Need-line-requires Inv-loop μ-loop
 line-requires c κs = search needs
@@ -53,18 +51,14 @@ loop-less c = omega arith
 loop-again : tie.Need-loop-again Inv-loop μ-loop
 loop-again c = let k = c .before .before in
     let d = k .before .before in
-    let l = d .before .before .loop in (
-      omega arith,
-      search (part-length, needs),
-      front-lent (lineBytes columnBytes) _ (l .part) (k .copy-line .last .0) (d .line .result) (l .n) 10 (omega arith) (l .inv .1) (l .inv .2) (k .copy-line .ensures) (d .line .ensures)
-          (λ j. line-long _ _ _ _ j),
-    )
+    let l = d .before .before .loop in
+    line-drawn fortyBytes _ (line-long _ _ _ _) (l .part) (l .n) (l .inv) (omega arith) (k .copy-line .last .0) (k .copy-line .ensures ∙ d .line .ensures) (search needs)
 
 same-length : tie.Need-same-length Inv-loop μ-loop
 same-length c = search needs
 
 returns : tie.Need-returns Inv-loop μ-loop
-returns c = let l = c .before .loop in front-end (lineBytes columnBytes) _ _ 10 _ (l .inv .2) (l .inv .0) (omega arith) (l .inv .1)
+returns c = let l = c .before .loop in all-lines fortyBytes _ (l .part) (l .n) (l .inv) (c .loop-test .left)
 
 pub draw-lines-spec : {M : Type 1} → statement M
 draw-lines-spec =

@@ -1,13 +1,13 @@
-use native.Mathlib.Omega.{arith}
-use Rattle.shown.proofs.Refusals.{refused-tgs, refused-pat}
+use Rattle.shown.proofs.Refusals.{asked-test}
+use borrow.Author.Needs.{needs}
 use Rattle.shown.proofs.Shown.is_refused_7.Statement.{statement}
 use Rattle.shown.proofs.Shown.is_refused_7.Tie as tie
 
-returns : tie.Need-returns
-returns c = refused-tgs _ (omega arith) (omega arith) (omega arith)
+picture-asked-requires : tie.Need-picture-asked-requires
+picture-asked-requires c κs = search needs
 
-returns-2 : tie.Need-returns-2
-returns-2 c = refused-pat _ (omega arith) (omega arith) (omega arith)
+returns : tie.Need-returns
+returns c = asked-test _ _ (c .picture-asked .ensures)
 
 pub is-refused-7-spec : {M : Type 1} → statement M
-is-refused-7-spec = tie.close (tie.spec returns returns-2)
+is-refused-7-spec = tie.close (tie.spec picture-asked-requires returns)

@@ -1,0 +1,16 @@
+-- The mode: 40 columns, or 80.
+-- Assumes nothing.
+use Prim.Native.Nat.{ℕ}
+use mathlib.Core.Bool.{Bool, _&&_}
+use Rattle.basics.specs.Bits.{isSet}
+use Rattle.basics.specs.Choice.{pick}
+use Rattle.shown.specs.declared.Shown.{Shown}
+use Rattle.shown.specs.Lengths.{fortyBytes, eightyBytes}
+
+-- TGS bits 7 and 6 both set: 80 columns
+unfoldable pub isEighty : Shown → Bool
+isEighty shown = isSet 7 (shown .tgs) && isSet 6 (shown .tgs)
+
+-- the bytes of a column's line that go with the mode
+abbrev pub columnBytes : Shown → ℕ
+columnBytes shown = pick (isEighty shown) eightyBytes fortyBytes
