@@ -109,10 +109,14 @@ place-fits-in n t p e h = rw e (legal-place n t h)
 pub legal-x : (n : ℕ) (t : Triple) → legalIn n t ≡ true → t .x < 40
 legal-x n t e = page-column (t .x) (t .y) (legal-page n t e)
 
+-- a legal triple's X and Y in any block of the board are legal
+pub legal-moved : (n : ℕ) (t : Triple) (z : ℕ) → legalIn n t ≡ true → z < n → legalIn n (record { x = t .x; y = t .y; z = z }) ≡ true
+unfolding legalIn
+legal-moved n t z e l = and-both _ _ (legal-page n t e) (lt-ltb z n l)
+
 -- on a board of d districts the blocks of a legal triple are legal
 pub legal-blocks : (d : ℕ) (t : Triple) (k : ℕ) → legalIn (4 * d) t ≡ true → legalIn (4 * d) (blockAt t k) ≡ true
-unfolding legalIn
-legal-blocks d t k e = and-both _ _ (legal-page (4 * d) t e) (lt-ltb (blockOf (t .z) k) (4 * d) (omega (arith, legal-block (4 * d) t e)))
+legal-blocks d t k e = legal-moved (4 * d) t (blockOf (t .z) k) e (omega (arith, legal-block (4 * d) t e))
 
 pub legal-block-at : (d : ℕ) (t u : Triple) (k : ℕ) → u ≡ blockAt t k → legalIn (4 * d) t ≡ true → legalIn (4 * d) u ≡ true
 legal-block-at d t u k e h = rw e (legal-blocks d t k h)

@@ -4,3 +4,4 @@ pub mod Pointers
 pub mod Places
 pub mod Slices
 pub mod Rows
+pub mod Narrow

@@ -9,7 +9,7 @@ use borrow.Author.Tests.{leb-true}
 use Rattle.basics.specs.Choice.{pick}
 use Rattle.basics.proofs.Choice.{and-right}
 use Rattle.command.specs.declared.Command.{Command}
-use Rattle.command.specs.declared.Command.the-variants.{Nop, Ind, Krf, Oct, NotListed}
+use Rattle.command.specs.declared.Command.the-variants.{Nop, Ind, Krf, Oct, Krl, NotListed}
 use Rattle.command.specs.Commands.{between, commandOf, Asked}
 
 asked-pick : (t : Bool) (x y : Command) → (t ≡ true → Asked x) → Asked y → Asked (pick t x y)
@@ -29,4 +29,6 @@ asked b =
     (asked-pick (between 0x30 0x31 b) (Oct false false (eqb b 0x31)) _ (λ t. tt)
     (asked-pick (between 0x34 0x35 b) (Oct false true (eqb b 0x35)) _ (λ t. tt)
     (asked-pick (between 0x38 0x39 b) (Oct true false (eqb b 0x39)) _ (λ t. tt)
-    (asked-pick (between 0x3C 0x3D b) (Oct true true (eqb b 0x3D)) NotListed (λ t. tt) tt))))))))))
+    (asked-pick (between 0x3C 0x3D b) (Oct true true (eqb b 0x3D)) _ (λ t. tt)
+    (asked-pick (between 0x50 0x51 b) (Krl false (eqb b 0x51)) _ (λ t. tt)
+    (asked-pick (between 0x58 0x59 b) (Krl true (eqb b 0x59)) NotListed (λ t. tt) tt))))))))))))

@@ -5,13 +5,14 @@ use mathlib.Core.Bool.{Bool, true, false, _&&_}
 use lib.Dec.{leb, eqb}
 use Rattle.basics.specs.Choice.{pick}
 use Rattle.command.specs.declared.Command.{Command}
-use Rattle.command.specs.declared.Command.the-variants.{Nop, Ind, Krf, Oct, NotListed}
+use Rattle.command.specs.declared.Command.the-variants.{Nop, Ind, Krf, Oct, Krl, NotListed}
 
 abbrev pub between : ℕ → ℕ → ℕ → Bool
 between low high b = leb low b && leb b high
 
 -- NOP 90, 91. IND 80 plus r, read form plus 8: r 1 to 4 and 7. KRF 00, with increment 01; read 08, 09. OCT 30, plus 1 increment, plus 4
--- auxiliary pointer, plus 8 read. (Ind r reads; Krf reads increments; Oct reads auxiliary increments.) Any other byte is not listed
+-- auxiliary pointer, plus 8 read. KRL 50, increment 51, read 58, 59. (Ind r reads; Krf reads increments; Oct reads auxiliary increments;
+-- Krl reads increments.) Any other byte is not listed
 unfoldable pub commandOf : ℕ → Command
 commandOf b =
     pick (between 0x90 0x91 b) Nop
@@ -24,7 +25,9 @@ commandOf b =
     (pick (between 0x30 0x31 b) (Oct false false (eqb b 0x31))
     (pick (between 0x34 0x35 b) (Oct false true (eqb b 0x35))
     (pick (between 0x38 0x39 b) (Oct true false (eqb b 0x39))
-    (pick (between 0x3C 0x3D b) (Oct true true (eqb b 0x3D)) NotListed))))))))))
+    (pick (between 0x3C 0x3D b) (Oct true true (eqb b 0x3D))
+    (pick (between 0x50 0x51 b) (Krl false (eqb b 0x51))
+    (pick (between 0x58 0x59 b) (Krl true (eqb b 0x59)) NotListed))))))))))))
 
 -- of the commands that a byte names, an IND names one of the eight registers
 abbrev pub Asked : Command → Type 0
@@ -32,4 +35,5 @@ Asked Nop = Unit {0}
 Asked (Ind r reads) = r < 8
 Asked (Krf reads increments) = Unit {0}
 Asked (Oct reads auxiliary increments) = Unit {0}
+Asked (Krl reads increments) = Unit {0}
 Asked NotListed = Unit {0}

@@ -24,9 +24,9 @@ pub enum Drawing {
     WrongMemory,
     // 5: ROM is not 6,400 bytes.
     WrongRom,
-    // 6: picture is not 40,000 bytes.
+    // 6: picture is not 40,000 bytes, or 60,000 in 80 columns.
     WrongPicture,
-    // 7: TGS bits 7, 6 or 5, or PAT bit 7, not zero.
+    // 7: TGS bits 7, 6 or 5, or PAT bit 7, not zero; with TGS 7 and 6 both set, TGS 5 or PAT 7.
     NotBuilt,
     // 8: origin YOR below 8.
     LowOrigin,

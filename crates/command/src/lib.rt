@@ -12,6 +12,8 @@ pub enum Command {
     Krf(bool, bool),
     // Whether it reads, whether by the auxiliary pointer, and whether it increments.
     Oct(bool, bool, bool),
+    // Whether it reads, and whether it increments.
+    Krl(bool, bool),
     NotListed,
 }
 
@@ -25,6 +27,8 @@ pub fn command_of(byte: u8) -> Command
         0x34..=0x35 => Command::Oct(false, true, byte == 0x35),
         0x38..=0x39 => Command::Oct(true, false, byte == 0x39),
         0x3C..=0x3D => Command::Oct(true, true, byte == 0x3D),
+        0x50..=0x51 => Command::Krl(false, byte == 0x51),
+        0x58..=0x59 => Command::Krl(true, byte == 0x59),
         0x81..=0x84 => Command::Ind(byte - 0x80, false),
         0x87 => Command::Ind(7, false),
         0x89..=0x8C => Command::Ind(byte - 0x88, true),

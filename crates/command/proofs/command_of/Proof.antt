@@ -1,6 +1,6 @@
 use Rattle.command.proofs.Ranges.{listed, unlisted, isNotListed}
 use Rattle.command.specs.Commands.{commandOf}
-use Rattle.command.specs.declared.Command.the-variants.{Nop, Ind, Krf, Oct}
+use Rattle.command.specs.declared.Command.the-variants.{Nop, Ind, Krf, Oct, Krl}
 use Rattle.basics.proofs.Choice.{lt-or-le}
 use lib.Dec.{eqb}
 use mathlib.Core.Path.{refl}
@@ -12,11 +12,11 @@ use borrow.Author.Needs.{needs}
 use Rattle.command.proofs.command_of.Statement.{statement}
 use Rattle.command.proofs.command_of.Tie as tie
 
-sub-t10 : tie.Need-sub-t10
-sub-t10 c = search needs
+sub-t12 : tie.Need-sub-t12
+sub-t12 c = search needs
 
-sub-t11 : tie.Need-sub-t11
-sub-t11 c = search needs
+sub-t13 : tie.Need-sub-t13
+sub-t13 c = search needs
 
 returns : tie.Need-returns
 unfolding commandOf
@@ -28,84 +28,100 @@ returns-2 c = rw (c .match .keys2) refl
 
 returns-3 : tie.Need-returns-3
 unfolding commandOf
-returns-3 c = listed (λ b. Krf false (eqb b 0x01)) 0 2 (refl, (refl, tt)) (c .before .before .before .args .byte) (omega arith) (omega arith)
+returns-3 c = listed (λ b. Krf false (eqb b 0x01)) 0 2 (refl, (refl, tt)) (c .before .before .before .before .args .byte) (omega arith) (omega arith)
 
 returns-4 : tie.Need-returns-4
 unfolding commandOf
-returns-4 c = listed (λ b. Krf true (eqb b 0x09)) 8 2 (refl, (refl, tt)) (c .before .before .before .before .before .args .byte) (omega arith) (omega arith)
+returns-4 c = listed (λ b. Krf true (eqb b 0x09)) 8 2 (refl, (refl, tt)) (c .before .before .before .before .before .before .args .byte) (omega arith) (omega arith)
 
 returns-5 : tie.Need-returns-5
 unfolding commandOf
-returns-5 c = listed (λ b. Oct false false (eqb b 0x31)) 48 2 (refl, (refl, tt)) (c .before .before .before .before .before .before .before .args .byte) (omega arith) (omega arith)
+returns-5 c = listed (λ b. Oct false false (eqb b 0x31)) 48 2 (refl, (refl, tt)) (c .before .before .before .before .before .before .before .before .args .byte) (omega arith) (omega arith)
 
 returns-6 : tie.Need-returns-6
 unfolding commandOf
-returns-6 c = listed (λ b. Oct false true (eqb b 0x35)) 52 2 (refl, (refl, tt)) (c .before .before .before .before .before .before .before .before .before .args .byte) (omega arith) (omega arith)
+returns-6 c = listed (λ b. Oct false true (eqb b 0x35)) 52 2 (refl, (refl, tt)) (c .before .before .before .before .args .byte) (omega arith) (omega arith)
 
 returns-7 : tie.Need-returns-7
 unfolding commandOf
-returns-7 c = listed (λ b. Oct true false (eqb b 0x39)) 56 2 (refl, (refl, tt)) (c .before .before .before .before .before .before .before .before .before .before .args .byte) (omega arith) (omega arith)
+returns-7 c = listed (λ b. Oct true false (eqb b 0x39)) 56 2 (refl, (refl, tt)) (c .before .before .before .before .before .before .args .byte) (omega arith) (omega arith)
 
 returns-8 : tie.Need-returns-8
 unfolding commandOf
-returns-8 c = listed (λ b. Oct true true (eqb b 0x3D)) 60 2 (refl, (refl, tt)) (c .before .before .before .before .args .byte) (omega arith) (omega arith)
+returns-8 c = listed (λ b. Oct true true (eqb b 0x3D)) 60 2 (refl, (refl, tt)) (c .before .before .before .before .before .before .before .args .byte) (omega arith) (omega arith)
 
 returns-9 : tie.Need-returns-9
 unfolding commandOf
-returns-9 c = listed (λ b. Ind (b - 0x80) false) 129 4 (refl, (refl, (refl, (refl, tt)))) (c .before .before .before .before .before .before .args .byte) (omega arith) (omega arith)
+returns-9 c = listed (λ b. Krl false (eqb b 0x51)) 80 2 (refl, (refl, tt)) (c .before .before .before .before .before .args .byte) (omega arith) (omega arith)
 
 returns-10 : tie.Need-returns-10
 unfolding commandOf
-returns-10 c = listed (λ b. Ind (b - 0x88) true) 137 4 (refl, (refl, (refl, (refl, tt)))) (c .before .before .before .before .before .before .before .before .args .byte) (omega arith) (omega arith)
+returns-10 c = listed (λ b. Krl true (eqb b 0x59)) 88 2 (refl, (refl, tt)) (c .before .before .before .before .before .before .before .args .byte) (omega arith) (omega arith)
 
 returns-11 : tie.Need-returns-11
 unfolding commandOf
-returns-11 c = listed (λ b. Nop) 144 2 (refl, (refl, tt)) (c .before .before .before .before .before .before .before .before .before .before .args .byte) (omega (arith, c .before .before .before .before .before .before .before .before .before .match .rest .1, c .before .before .before .before .before .before .before .before .before .match .rest .0 .1)) (omega (arith, c .before .before .before .before .before .before .before .before .before .match .rest .1, c .before .before .before .before .before .before .before .before .before .match .rest .0 .1))
+returns-11 c = listed (λ b. Ind (b - 0x80) false) 129 4 (refl, (refl, (refl, (refl, tt)))) (c .before .before .before .before .before .before .before .before .args .byte) (omega arith) (omega arith)
 
 returns-12 : tie.Need-returns-12
-unfolding commandOf isNotListed
-returns-12 c = unlisted 2 6 tt (c .before .before .before .before .args .byte) (omega arith) (omega arith)
+unfolding commandOf
+returns-12 c = listed (λ b. Ind (b - 0x88) true) 137 4 (refl, (refl, (refl, (refl, tt)))) (c .before .before .before .before .before .args .byte) (omega arith) (omega arith)
 
 returns-13 : tie.Need-returns-13
-unfolding commandOf isNotListed
-returns-13 c = unlisted 10 38 tt (c .before .before .before .before .before .before .args .byte) (omega arith) (omega arith)
+unfolding commandOf
+returns-13 c = listed (λ b. Nop) 144 2 (refl, (refl, tt)) (c .before .before .before .before .before .before .before .args .byte) (omega arith) (omega arith)
 
 returns-14 : tie.Need-returns-14
 unfolding commandOf isNotListed
-returns-14 c = unlisted 50 2 tt (c .before .before .before .before .before .before .before .before .args .byte) (omega arith) (omega arith)
+returns-14 c = unlisted 2 6 tt (c .before .before .before .before .before .args .byte) (omega arith) (omega arith)
 
 returns-15 : tie.Need-returns-15
 unfolding commandOf isNotListed
-returns-15 c = unlisted 54 2 tt (c .before .before .before .before .before .before .before .before .before .before .args .byte) (omega arith) (omega arith)
+returns-15 c = unlisted 10 38 tt (c .before .before .before .before .before .before .before .args .byte) (omega arith) (omega arith)
 
 returns-16 : tie.Need-returns-16
 unfolding commandOf isNotListed
-returns-16 c = unlisted 58 2 tt (c .before .before .before .args .byte) (omega arith) (omega arith)
+returns-16 c = unlisted 50 2 tt (c .before .before .before .before .before .before .before .before .args .byte) (omega arith) (omega arith)
 
 returns-17 : tie.Need-returns-17
 unfolding commandOf isNotListed
-returns-17 c = unlisted 62 67 tt (c .before .before .before .before .before .args .byte) (omega arith) (omega arith)
+returns-17 c = unlisted 54 2 tt (c .before .before .before .before .before .args .byte) (omega arith) (omega arith)
 
 returns-18 : tie.Need-returns-18
 unfolding commandOf isNotListed
-returns-18 c = let b = c .before .before .before .before .before .before .before .args .byte in
-    ⊎-elim (λ l. unlisted 133 2 tt b (omega arith) (omega arith))
-    (λ l. unlisted 136 1 tt b (omega (arith, c .before .before .before .before .before .before .match .rest .0 .1)) (omega arith)) (lt-or-le b 135)
+returns-18 c = unlisted 58 2 tt (c .before .before .before .before .before .before .before .args .byte) (omega arith) (omega arith)
 
 returns-19 : tie.Need-returns-19
 unfolding commandOf isNotListed
-returns-19 c = unlisted 141 2 tt (c .before .before .before .before .before .before .before .before .before .args .byte) (omega arith) (omega arith)
+returns-19 c = unlisted 62 18 tt (c .before .before .before .before .args .byte) (omega arith) (omega arith)
 
 returns-20 : tie.Need-returns-20
 unfolding commandOf isNotListed
-returns-20 c = unlisted 146 110 tt (c .before .before .before .before .before .before .before .before .before .before .args .byte) (omega arith) (omega arith)
+returns-20 c = unlisted 82 6 tt (c .before .before .before .before .before .before .args .byte) (omega arith) (omega arith)
+
+returns-21 : tie.Need-returns-21
+unfolding commandOf isNotListed
+returns-21 c = unlisted 90 39 tt (c .before .before .before .before .before .before .before .before .args .byte) (omega arith) (omega arith)
+
+returns-22 : tie.Need-returns-22
+unfolding commandOf isNotListed
+returns-22 c = let b = c .before .before .before .before .args .byte in
+    ⊎-elim (λ l. unlisted 133 2 tt b (omega arith) (omega arith))
+    (λ l. unlisted 136 1 tt b (omega arith) (omega arith)) (lt-or-le b 135)
+
+returns-23 : tie.Need-returns-23
+unfolding commandOf isNotListed
+returns-23 c = unlisted 141 2 tt (c .before .before .before .before .before .before .args .byte) (omega arith) (omega arith)
+
+returns-24 : tie.Need-returns-24
+unfolding commandOf isNotListed
+returns-24 c = unlisted 146 110 tt (c .before .before .before .before .before .before .before .args .byte) (omega arith) (omega arith)
 
 pub command-of-spec : {M : Type 1} → statement M
 command-of-spec =
     tie.close
     (tie.spec
-    sub-t10
-    sub-t11
+    sub-t12
+    sub-t13
     returns
     returns-2
     returns-3
@@ -125,4 +141,8 @@ command-of-spec =
     returns-17
     returns-18
     returns-19
-    returns-20)
+    returns-20
+    returns-21
+    returns-22
+    returns-23
+    returns-24)
