@@ -1,0 +1,4 @@
+pub mod Tens
+pub mod Lines
+pub mod Drawn
+pub mod Registers
