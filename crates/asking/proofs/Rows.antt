@@ -11,9 +11,11 @@ use lib.Dec.{ltb, leb, eqb}
 use mir.Val.{boolByte}
 use lib.ListN.{getD}
 use borrow.Author.Tests.{ne-eqb, eqb-true, leb-true, le-leb, not-false}
+use Rattle.basics.specs.Bits.{bits, isSet}
 use Rattle.basics.specs.Choice.{pick}
 use Rattle.basics.specs.Below.{anyBelow}
 use Rattle.basics.proofs.Below.{any-not, any-same, any-never, any-split}
+use Rattle.basics.proofs.Computed.{agree-test}
 use Rattle.basics.proofs.Choice.{pick-either, bool-cases, lt-or-le, eq-or-ne, and-left, and-right, and-both, or-cases, or-none, or-neither}
 use Rattle.address.specs.Boards.{bytesOf}
 use Rattle.address.specs.Places.{placeOf, blockOf}
@@ -22,6 +24,7 @@ use Rattle.address.proofs.Places.{place-within}
 use Rattle.cell.specs.Cells.{isQuadrichrome}
 use Rattle.page.specs.Codes.{codeOf}
 use Rattle.page.specs.Inputs.{flashes}
+use Rattle.narrow.specs.Codes.{evenOf, oddOf, pairFlashes}
 use Rattle.keys.specs.declared.key.Keys.{Keys}
 use Rattle.keys.specs.HowKeys.{keysHigh, isSource, fromBlock, keyed}
 use Rattle.asking.specs.HowAsked.{showsCharacter, blinks, codeFrom, flashAt, blinkAt, characterAt, keyedAt}
@@ -35,11 +38,25 @@ unfolding codeFrom codeOf
 stretch-code first i column side m y z =
     rw (stretch-place first i column side y (blockOf z 0), stretch-place first i column side y (blockOf z 1), stretch-place first i column side y (blockOf z 2))
 
+-- the C of a character of 80 columns, not of a mosaic
+text-test : (c : ℕ) → c < 256 → ltb c 128 ≡ not (isSet 7 c)
+text-test = agree-test (λ c. ltb c 128) (λ c. not (isSet 7 c)) 256 tt
+
 -- the tests of a cell, by the bytes that the code reads
 module _ (code : List ℕ) where
   pub flash-test : (b a : ℕ) → b < 256 → b ≡ getD code 1 0 → a ≡ getD code 2 0 → (ltb b 192 && eqb (a / 8 % 2) 1) ≡ flashes code
   unfolding flashes
   flash-test b a h e f = ap (λ (t : Bool). t && eqb (a / 8 % 2) 1) (bichrome-test b h) ∙ rw (e, f)
+
+  -- in 80 columns
+  pub pair-test :
+      getD code 0 0 < 256 → getD code 1 0 < 256
+      → ((ltb (getD code 0 0) 128 && eqb (getD code 2 0 / 64 % 2) 1) || (ltb (getD code 1 0) 128 && eqb (getD code 2 0 / 4 % 2) 1)) ≡ pairFlashes code
+  unfolding pairFlashes evenOf oddOf
+  pair-test c b =
+      let even : getD code 2 0 / 64 % 2 ≡ bits 4 4 (getD code 2 0) / 4 % 2 = omega arith in
+      let odd : getD code 2 0 / 4 % 2 ≡ bits 0 4 (getD code 2 0) / 4 % 2 = omega arith in
+      rw (even, odd, text-test _ c, text-test _ b)
 
   pub blink-test : (a : ℕ) → a ≡ getD code 2 0 → eqb (a / 8 % 2) 1 ≡ blinks code
   unfolding blinks

@@ -11,6 +11,7 @@ use Rattle.address.specs.Places.{placeOf, blockOf, byteAt}
 use Rattle.page.specs.Codes.{codeOf}
 use Rattle.page.specs.Halves.{isTall}
 use Rattle.page.specs.Inputs.{flashes}
+use Rattle.narrow.specs.Codes.{pairFlashes}
 use Rattle.keys.specs.declared.key.Keys.{Keys}
 use Rattle.keys.specs.HowKeys.{keyed}
 
@@ -33,6 +34,10 @@ tallAt m z y = anyBelow (λ x. isTall (codeOf m z y x)) 40
 
 abbrev pub flashAt : List ℕ → ℕ → ℕ → Bool
 flashAt m z y = anyBelow (λ x. flashes (codeOf m z y x)) 40
+
+-- in 80 columns: some column of it
+abbrev pub pairFlashAt : List ℕ → ℕ → ℕ → Bool
+pairFlashAt m z y = anyBelow (λ x. pairFlashes (codeOf m z y x)) 40
 
 abbrev pub blinkAt : List ℕ → ℕ → ℕ → Bool
 blinkAt m z y = anyBelow (λ x. blinks (codeOf m z y x)) 40

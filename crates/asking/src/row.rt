@@ -5,12 +5,13 @@ ghost use Prim.Native.Nat.{_+_, _≤_, _<_};
 ghost use lib.ListN.{length};
 ghost use Rattle.basics.specs.Below.{anyBelow};
 ghost use Rattle.address.specs.Boards.{boardBlocks, memoryBytes};
-ghost use Rattle.asking.specs.HowAsked.{tallAt, flashAt, blinkAt, characterAt, keyedAt};
+ghost use Rattle.asking.specs.HowAsked.{tallAt, flashAt, pairFlashAt, blinkAt, characterAt, keyedAt};
 ghost use Rattle.keys.specs.HowKeys.{keysHigh};
 use crate::stretch::some_blink;
 use crate::stretch::some_character;
 use crate::stretch::some_flash;
 use crate::stretch::some_keyed;
+use crate::stretch::some_pair_flash;
 use crate::stretch::some_tall;
 use keys::key::Keys;
 
@@ -33,6 +34,14 @@ fn has_flash(memory: &[u8], z: u8, y: u8) -> bool
         return true;
     }
     some_flash(memory, z, y, 16, 16) | some_flash(memory, z, y, 32, 8)
+}
+
+// In 80 columns.
+fn has_pair_flash(memory: &[u8], z: u8, y: u8) -> bool
+    requires { ⌜ (length (now memory) ≡ memoryBytes) × (z < boardBlocks) × (y < 32) ⌝ }
+    ensures { λ r. ⌜ r ≡ pairFlashAt (now (memory .entry)) z y ⌝ }
+{
+    some_pair_flash(memory, z, y, 0, 32) | some_pair_flash(memory, z, y, 32, 8)
 }
 
 // The service row has a question of its own, so that the other rows' has one caller and is compiled into its loop.
@@ -94,6 +103,17 @@ pub fn is_marked_or_flashes(memory: &[u8], z: u8, y: u8, marked: bool) -> bool
         return true;
     }
     has_flash(memory, z, y)
+}
+
+// The row is marked, or it flashes in 80 columns.
+pub fn is_marked_or_pair_flashes(memory: &[u8], z: u8, y: u8, marked: bool) -> bool
+    requires { ⌜ (length (now memory) ≡ memoryBytes) × (z < boardBlocks) × (y < 32) ⌝ }
+    ensures { λ r. ⌜ r ≡ (marked || pairFlashAt (now (memory .entry)) z y) ⌝ }
+{
+    if marked {
+        return true;
+    }
+    has_pair_flash(memory, z, y)
 }
 
 // The row is marked, or the keys fit a cell of it.

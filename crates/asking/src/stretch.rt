@@ -11,10 +11,12 @@ ghost use Rattle.address.specs.Places.{placeOf};
 ghost use Rattle.page.specs.Codes.{codeOf};
 ghost use Rattle.page.specs.Halves.{isTall};
 ghost use Rattle.page.specs.Inputs.{flashes};
+ghost use Rattle.narrow.specs.Codes.{pairFlashes};
 ghost use Rattle.asking.specs.HowAsked.{codeFrom, blinks, showsCharacter};
 ghost use Rattle.keys.specs.HowKeys.{keyed};
 use keys::key::Keys;
 use page::stretch::start;
+use page::stretch::starts_of;
 
 // A cell of double height.
 pub fn some_tall(memory: &[u8], z: u8, y: u8, first: u16, n: usize) -> bool
@@ -40,6 +42,22 @@ pub fn some_flash(memory: &[u8], z: u8, y: u8, first: u16, n: usize) -> bool
     let mut found = false;
     for i in 0..n {
         found = found | ((memory[b + i] < 192) & (memory[a + i] / 8 % 2 == 1));
+    }
+    found
+}
+
+// In 80 columns: a column of whose two cells one flashes. The attributes of both are halves of one byte.
+pub fn some_pair_flash(memory: &[u8], z: u8, y: u8, first: u16, n: usize) -> bool
+    requires { ⌜ (length (now memory) ≡ memoryBytes) × (z < boardBlocks) × (y < 32) × (first + n ≤ 40) × (first % 32 + n ≤ 32) ⌝ }
+    ensures { λ r. ⌜ r ≡ anyBelow (λ i. pairFlashes (codeOf (now (memory .entry)) z y (first + i))) n ⌝ }
+{
+    let here = starts_of(z, y, first);
+    let mut found = false;
+    for i in 0..n {
+        let byte = memory[here.a + i];
+        let even = (memory[here.c + i] < 128) & (byte / 64 % 2 == 1);
+        let odd = (memory[here.b + i] < 128) & (byte / 4 % 2 == 1);
+        found = found | (even | odd);
     }
     found
 }

@@ -6,8 +6,7 @@ use mathlib.Core.Bool.{Bool, true, false, not, _&&_, _||_, or-false}
 use mathlib.Core.List.{List, [], _∷_}
 use native.Mathlib.Omega.{arith}
 use lib.Dec.{eqb}
-use lib.ListN.{length, getD, set}
-use lib.Seq.{getD-set-other}
+use lib.ListN.{length, getD}
 use borrow.Author.Tests.{eq-eqb, ne-eqb, not-true}
 use Rattle.basics.specs.Choice.{pick}
 use Rattle.basics.proofs.Choice.{pick-same, or-none, or-neither}
@@ -15,17 +14,20 @@ use Rattle.address.specs.declared.triple.Triple.{Triple}
 use Rattle.address.specs.Boards.{boardBlocks}
 use Rattle.address.specs.Triples.{legal, onPage}
 use Rattle.address.specs.Places.{placeOf, blockOf, byteAt}
+use Rattle.address.specs.Narrow.{attributesAt}
 use Rattle.address.proofs.Laws.{legal-block}
 use Rattle.address.proofs.Places.{place-within, place-block, blocks-differ}
+use Rattle.address.proofs.Positions.{attributes-apart}
 use Rattle.shown.specs.declared.Shown.{Shown}
 use Rattle.shown.specs.Refusals.{canDraw}
 use Rattle.page.specs.Marks.{markedToo}
 use Rattle.reading.specs.Lists.{onList}
-use Rattle.reading.specs.Marks.{storeMarks, storesMarks, changesOn, codeStores}
+use Rattle.reading.specs.Marks.{Store, storeMarks, storesMarks, narrowStores, codeStores}
 use Rattle.keys.specs.HowKeys.{passes, someBlock, someChanged}
 use Rattle.marking.specs.HowMarked.{changedBlock, someOnList, changeMarks}
 use Rattle.reading.proofs.Marking.{marked-none, marked-same}
 use Rattle.reading.proofs.Several.{several}
+use Rattle.marking.proofs.Apart.{Apart, someStore, changesIt, each-changes}
 
 module _ (m : List ℕ) (p q z v : ℕ) (at : q ≡ p) where
   pub changed-not : getD m q 0 ≡ v → 255 ≡ changedBlock m p z v
@@ -57,68 +59,76 @@ changed-passes f m p z v l = go (eqb (byteAt m p) v)
     go true = refl
     go false = ap (λ (t : Bool). not t && f z) (ne-eqb z 255 (λ e. omega arith))
 
--- blocks of a page differ, and so do their places at one X and Y
-apart : (x y z i j : ℕ) → i < 4 → j < 4 → (i ≡ j → ⊥) → placeOf x y (blockOf z i) ≡ placeOf x y (blockOf z j) → ⊥
-apart x y z i j p q n e = n (blocks-differ z i j p q (omega (arith, place-within x y (blockOf z i), place-within x y (blockOf z j))))
+-- the places at one X and Y in two blocks
+places-differ : (x y i j : ℕ) → (i ≡ j → ⊥) → placeOf x y i ≡ placeOf x y j → ⊥
+places-differ x y i j n e = n (omega (arith, place-within x y i, place-within x y j))
 
 module _ (shown : Shown) (m : List ℕ) (marks : List Bool) (long : length marks ≡ 25) where
   abbrev on : ℕ → ℕ → ℕ → ℕ → Bool
   on x y r z = onList shown m (placeOf x y z) r
 
+  -- a store at X and Y changes a byte that a list holds exactly where the block that the code has for it passes
+  passed :
+      (x y z v b : ℕ) → z < 255 → b ≡ changedBlock m (placeOf x y z) z v
+      → (r : ℕ) → changesIt shown m r (record { place = placeOf x y z; value = v }) ≡ passes (on x y r) b
+  passed x y z v b small e r = sym (ap (passes (on x y r)) e ∙ changed-passes (on x y r) m (placeOf x y z) z v small)
+
+  -- stores at X and Y, none where another was, mark the rows whose lists hold a byte in a block that the code has
+  stores-change :
+      (x y : ℕ) (stores : List Store) (blocks : List ℕ) → Apart stores
+      → ((r : ℕ) → someStore (changesIt shown m r) stores ≡ someBlock (on x y r) blocks)
+      → storesMarks shown m stores marks ≡ changeMarks shown m x y blocks marks
+  unfolding changeMarks someOnList
+  stores-change x y stores blocks off e =
+      several shown stores m marks long
+      ∙ ap (λ (l : List Bool). pick (canDraw shown) l marks) (marked-same _ marks _ (λ r l. each-changes shown m r stores off ∙ e r))
+
   -- one store
-  module _ (x y z v : ℕ) (small : z < 255) (b : ℕ) (eb : b ≡ changedBlock m (placeOf x y z) z v) where
-    one-on : (r : ℕ) → changesOn shown m m (record { place = placeOf x y z; value = v } ∷ []) r ≡ someOnList shown m x y (b ∷ 255 ∷ 255 ∷ []) r
-    unfolding changesOn someOnList someBlock
-    one-on r = ap (λ (t : Bool). t || false) (sym (ap (passes (on x y r)) eb ∙ changed-passes (on x y r) m (placeOf x y z) z v small))
+  pub store-changes :
+      (x y z v : ℕ) → z < 255 → (b : ℕ) → b ≡ changedBlock m (placeOf x y z) z v
+      → storeMarks shown m (placeOf x y z) v marks ≡ changeMarks shown m x y (b ∷ 255 ∷ 255 ∷ []) marks
+  unfolding storesMarks someBlock
+  store-changes x y z v small b e =
+      stores-change x y (record { place = placeOf x y z; value = v } ∷ []) (b ∷ 255 ∷ 255 ∷ []) (tt, tt)
+      (λ r. ap (λ (t : Bool). t || false) (passed x y z v b small e r))
 
-    pub store-changes :
-        storeMarks shown m (placeOf x y z) v marks ≡ changeMarks shown m x y (b ∷ 255 ∷ 255 ∷ []) marks
-    unfolding storesMarks changeMarks
-    store-changes =
-        several shown (record { place = placeOf x y z; value = v } ∷ []) m marks long
-        ∙ ap (λ (l : List Bool). pick (canDraw shown) l marks) (marked-same _ marks _ (λ r l. one-on r))
+  module _ (t : Triple) (lawful : legal t ≡ true) where
+    abbrev at : ℕ → ℕ
+    at z = placeOf (t .x) (t .y) z
 
-  -- the three stores of a code: none is where another was, so each changes the byte that was there before the first
-  module _
-      (t : Triple) (lawful : legal t ≡ true) (c b a u v w : ℕ)
-      (eu : u ≡ changedBlock m (placeOf (t .x) (t .y) (blockOf (t .z) 0)) (blockOf (t .z) 0) c)
-      (ev : v ≡ changedBlock m (placeOf (t .x) (t .y) (blockOf (t .z) 1)) (blockOf (t .z) 1) b)
-      (ew : w ≡ changedBlock m (placeOf (t .x) (t .y) (blockOf (t .z) 2)) (blockOf (t .z) 2) a)
-    where
-      abbrev at : ℕ → ℕ
-      at k = placeOf (t .x) (t .y) (blockOf (t .z) k)
+    abbrev changed : ℕ → ℕ → ℕ
+    changed z v = changedBlock m (at z) z v
 
-      differ : (i j : ℕ) → i < 4 → j < 4 → (i ≡ j → ⊥) → at i ≡ at j → ⊥
-      differ = apart (t .x) (t .y) (t .z)
+    -- the two stores of a position of 80 columns
+    pub narrow-changes :
+        (c a u v : ℕ) → u ≡ changed (t .z) c → v ≡ changed (attributesAt t .z) a
+        → storesMarks shown m (narrowStores t c a) marks ≡ changeMarks shown m (t .x) (t .y) (u ∷ v ∷ 255 ∷ []) marks
+    unfolding narrowStores someBlock
+    narrow-changes c a u v eu ev =
+        stores-change (t .x) (t .y) (narrowStores t c a) (u ∷ v ∷ 255 ∷ [])
+        ((places-differ (t .x) (t .y) (attributesAt t .z) (t .z) (attributes-apart t), tt), (tt, tt))
+        (λ r.
+        ap₂ _||_ (passed _ _ (t .z) c u (omega (arith, legal-block boardBlocks t lawful)) eu r)
+        (ap (λ (b : Bool). b || false) (passed _ _ (attributesAt t .z) a v (omega (arith, legal-block boardBlocks t lawful)) ev r)))
 
-      passed :
-          (r k e value : ℕ) → k < 4 → e ≡ changedBlock m (at k) (blockOf (t .z) k) value
-          → passes (on (t .x) (t .y) r) e ≡ (not (eqb (byteAt m (at k)) value) && onList shown m (at k) r)
-      passed r k e value l ee =
-          ap (passes (on (t .x) (t .y) r)) ee
-          ∙ changed-passes (on (t .x) (t .y) r) m (at k) (blockOf (t .z) k) value (omega (arith, legal-block boardBlocks t lawful))
+    -- the three stores of a code
+    pub code-changes :
+        (c b a u v w : ℕ) → u ≡ changed (blockOf (t .z) 0) c → v ≡ changed (blockOf (t .z) 1) b → w ≡ changed (blockOf (t .z) 2) a
+        → storesMarks shown m (codeStores t c b a) marks ≡ changeMarks shown m (t .x) (t .y) (u ∷ v ∷ w ∷ []) marks
+    unfolding codeStores someBlock
+    code-changes c b a u v w eu ev ew =
+        stores-change (t .x) (t .y) (codeStores t c b a) (u ∷ v ∷ w ∷ [])
+        ((off 1 0 (omega arith) (omega arith), (off 2 0 (omega arith) (omega arith), tt)), ((off 2 1 (omega arith) (omega arith), tt), (tt, tt)))
+        (λ r.
+        ap₂ _||_ (passed _ _ (blockOf (t .z) 0) c u (small 0) eu r)
+        (ap₂ _||_ (passed _ _ (blockOf (t .z) 1) b v (small 1) ev r) (or-false _ ∙ passed _ _ (blockOf (t .z) 2) a w (small 2) ew r)))
+      where
+        small : (k : ℕ) → blockOf (t .z) k < 255
+        small k = omega (arith, legal-block boardBlocks t lawful)
 
-      second : byteAt (set m (at 0) c) (at 1) ≡ byteAt m (at 1)
-      second = getD-set-other m (at 0) (at 1) c 0 (differ 1 0 (omega arith) (omega arith) (λ e. omega arith))
-
-      third : byteAt (set (set m (at 0) c) (at 1) b) (at 2) ≡ byteAt m (at 2)
-      third =
-          getD-set-other (set m (at 0) c) (at 1) (at 2) b 0 (differ 2 1 (omega arith) (omega arith) (λ e. omega arith))
-          ∙ getD-set-other m (at 0) (at 2) c 0 (differ 2 0 (omega arith) (omega arith) (λ e. omega arith))
-
-      three-on : (r : ℕ) → changesOn shown m m (codeStores t c b a) r ≡ someOnList shown m (t .x) (t .y) (u ∷ v ∷ w ∷ []) r
-      unfolding changesOn codeStores someOnList someBlock
-      three-on r =
-          ap₂ _||_ (sym (passed r 0 u c (omega arith) eu))
-          (ap₂ _||_ (ap (λ (k : ℕ). not (eqb k b) && onList shown m (at 1) r) second ∙ sym (passed r 1 v b (omega arith) ev))
-          (or-false _ ∙ ap (λ (k : ℕ). not (eqb k a) && onList shown m (at 2) r) third ∙ sym (passed r 2 w a (omega arith) ew)))
-
-      pub code-changes :
-          storesMarks shown m (codeStores t c b a) marks ≡ changeMarks shown m (t .x) (t .y) (u ∷ v ∷ w ∷ []) marks
-      unfolding changeMarks
-      code-changes =
-          several shown (codeStores t c b a) m marks long
-          ∙ ap (λ (l : List Bool). pick (canDraw shown) l marks) (marked-same _ marks _ (λ r l. three-on r))
+        -- one is not at the place of one before it
+        off : (i j : ℕ) → i < 4 → j < i → at (blockOf (t .z) i) ≡ at (blockOf (t .z) j) → ⊥
+        off i j l h = places-differ (t .x) (t .y) (blockOf (t .z) i) (blockOf (t .z) j) (λ e. omega (arith, blocks-differ (t .z) i j l (omega arith) e))
 
   -- the ends of the code: no byte changes, the rows are asked, and a draw would be refused
   module _ (x y : ℕ) (blocks : List ℕ) where

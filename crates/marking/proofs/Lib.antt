@@ -2,4 +2,5 @@ pub mod Ends
 pub mod Falls
 pub mod Loops
 pub mod Lists
+pub mod Apart
 pub mod Changes

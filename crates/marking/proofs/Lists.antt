@@ -1,9 +1,9 @@
--- What the code asks of a row is what its list holds: a byte of the row's own or of a row above that it reaches, and a byte that one of
--- its cells has as a slice.
+-- What the code asks of a row is what its list holds: a byte of the row's own, and in 40 columns also one of a row above that it reaches, and a
+-- byte that one of its cells has as a slice.
 -- Assumes nothing.
 use Prim.Native.Nat.{ℕ, zero, suc, _<_}
 use mathlib.Core.Path.{_≡_, refl, sym, ap, ap₂, _∙_}
-use mathlib.Core.Bool.{Bool, true, false, _&&_, _||_, and-false, or-false}
+use mathlib.Core.Bool.{Bool, true, false, not, _&&_, _||_, and-false, and-true, and-comm, or-false}
 use mathlib.Core.List.{List}
 use native.Mathlib.Omega.{arith}
 use lib.Dec.{eqb}
@@ -14,6 +14,7 @@ use Rattle.address.specs.Places.{placeOf, blockOf}
 use Rattle.address.specs.Rows.{rowY}
 use Rattle.address.proofs.Laws.{facts-y, page-row}
 use Rattle.shown.specs.declared.Shown.{Shown}
+use Rattle.shown.specs.Modes.{isEighty}
 use Rattle.shown.specs.Origins.{yorOf, firstBlock}
 use Rattle.page.specs.Codes.{codeOf, codeAt}
 use Rattle.page.specs.Marks.{markedToo}
@@ -51,6 +52,11 @@ module _ (shown : Shown) (m : List ℕ) (x y : ℕ) (page : onPage x y ≡ true)
   abbrev falls : ℕ → Bool
   falls = fallsTo tall (rowAt (yorOf shown) y)
 
+  -- the list, by the mode
+  listed : (b : Bool) → isEighty shown ≡ b → (p r : ℕ) → onList shown m p r ≡ (rowHolds shown p r || (not b && (slicesHold shown m p r || aboveHolds shown m p r)))
+  unfolding onList
+  listed b e p r = rw e
+
   -- a byte of its own
   own : (z r : ℕ) → r < 25 → rowHolds shown (placeOf x y z) r ≡ (codeBlock first z && eqb r (rowAt (yorOf shown) y))
   own z r l =
@@ -70,20 +76,31 @@ module _ (shown : Shown) (m : List ℕ) (x y : ℕ) (page : onPage x y ≡ true)
     some-reached : (t : Bool) → someBlock (λ z. codeBlock first z && t) blocks ≡ (someCodeBlock first blocks && t)
     unfolding someCodeBlock
     some-reached true =
-        some-same blocks (λ z. codeBlock first z && true) (codeBlock first) (λ z. plain (codeBlock first z))
+        some-same blocks (λ z. codeBlock first z && true) (codeBlock first) (λ z. and-true (codeBlock first z))
         ∙ some-each blocks (codeBlock first) (no-code-block first (omega arith))
-        ∙ sym (plain (codeBlock first (getD blocks 0 0) || (codeBlock first (getD blocks 1 0) || codeBlock first (getD blocks 2 0))))
-      where
-        plain : (b : Bool) → (b && true) ≡ b
-        plain true = refl
-        plain false = refl
+        ∙ sym (and-true (codeBlock first (getD blocks 0 0) || (codeBlock first (getD blocks 1 0) || codeBlock first (getD blocks 2 0))))
     some-reached false =
         some-same blocks (λ z. codeBlock first z && false) (λ z. false) (λ z. and-false (codeBlock first z))
         ∙ some-none blocks
         ∙ sym (and-false (codeBlock first (getD blocks 0 0) || (codeBlock first (getD blocks 1 0) || codeBlock first (getD blocks 2 0))))
 
-    -- a slice of some block
-    module _ (bytes : (k : ℕ) → getD m k 0 < 256) where
+    -- in 80 columns a list is the row's own bytes; z and yor are what the code has
+    module _ (eighty : isEighty shown ≡ true) where
+      own-asked : (r : ℕ) → r < 25 → someOnList shown m x y blocks r ≡ (eqb r (rowAt (yorOf shown) y) && someCodeBlock first blocks)
+      unfolding someOnList
+      own-asked r l =
+          some-same blocks _ (λ z. codeBlock first z && eqb r (rowAt (yorOf shown) y))
+          (λ z. listed true eighty (placeOf x y z) r ∙ or-false (rowHolds shown (placeOf x y z) r) ∙ own z r l)
+          ∙ some-reached (eqb r (rowAt (yorOf shown) y))
+          ∙ and-comm (someCodeBlock first blocks) (eqb r (rowAt (yorOf shown) y))
+
+      pub list-own :
+          (z yor : ℕ) → z ≡ firstBlock shown → yor ≡ yorOf shown → (marks after : List Bool)
+          → after ≡ markedToo (λ r. eqb r (rowAt yor y) && someCodeBlock z blocks) marks → after ≡ markedToo (someOnList shown m x y blocks) marks
+      list-own z yor ez eo marks after e = e ∙ marked-same _ marks _ (λ r l. rw (ez, eo) (sym (own-asked r l)))
+
+    -- in 40 columns a slice of some block too
+    module _ (forty : isEighty shown ≡ false) (bytes : (k : ℕ) → getD m k 0 < 256) where
       some-slices :
           (r : ℕ)
           → someBlock (λ z. slicesHold shown m (placeOf x y z) r) blocks ≡ keyedAt (keysOf shown x y blocks) m first (rowY (yorOf shown) r)
@@ -96,11 +113,12 @@ module _ (shown : Shown) (m : List ℕ) (x y : ℕ) (page : onPage x y ≡ true)
           (r : ℕ) → r < 25
           → someOnList shown m x y blocks r
           ≡ ((someCodeBlock first blocks && falls r) || keyedAt (keysOf shown x y blocks) m first (rowY (yorOf shown) r))
-      unfolding someOnList onList
+      unfolding someOnList
       asked r l =
           some-same blocks _ (λ z. (codeBlock first z && falls r) || slicesHold shown m (placeOf x y z) r)
           (λ z.
-          slices-last (rowHolds shown (placeOf x y z) r) (slicesHold shown m (placeOf x y z) r) (aboveHolds shown m (placeOf x y z) r)
+          listed false forty (placeOf x y z) r
+          ∙ slices-last (rowHolds shown (placeOf x y z) r) (slicesHold shown m (placeOf x y z) r) (aboveHolds shown m (placeOf x y z) r)
           ∙ ap (λ (t : Bool). t || slicesHold shown m (placeOf x y z) r) (reached z r l))
           ∙ some-or blocks (λ z. codeBlock first z && falls r) (λ z. slicesHold shown m (placeOf x y z) r)
           ∙ ap₂ _||_ (some-reached (falls r)) (some-slices r)

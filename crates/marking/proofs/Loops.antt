@@ -36,6 +36,9 @@ module _ (f : ℕ → Bool) (marks : List Bool) where
   abbrev pub below : ℕ → ℕ → Bool
   below r i = ltb i r && f i
 
+  pub below-start : length marks ≡ 25 → marks ≡ markedToo (below 0) marks
+  below-start h = marked-none (below 0) marks h (λ i l. ap (λ (t : Bool). t && f i) (le-ltb i 0 (omega arith)))
+
   below-step : (r i : ℕ) → (below r i || (eqb i r && f r)) ≡ below (r + 1) i
   below-step r i =
       ⊎-elim
@@ -113,11 +116,12 @@ module _ (f : ℕ → Bool) (marks : List Bool) (y : ℕ → ℕ) (first : ℕ) 
       marked-set (between end) marks (between (end + 1)) after r new (f end) d l (en ∙ ap (λ (b : Bool). isMarked after r || b) et)
       (λ i k. ap (λ (b : Bool). between end i || (b && f end)) (at i k) ∙ between-step end (y i) h)
 
--- row 0, by itself
-pub first-marked :
-    (marks : List Bool) (new t : Bool) → length marks ≡ 25 → new ≡ (isMarked marks 0 || t) → set marks 0 new ≡ markedToo (λ i. eqb i 0 && t) marks
-first-marked marks new t h e =
-    marked-set (λ i. false) marks (λ i. eqb i 0 && t) marks 0 new t (marked-none (λ i. false) marks h (λ i l. refl)) (omega arith) e (λ i l. refl)
+-- one row, by itself
+pub one-marked :
+    (marks : List Bool) (r : ℕ) (new t : Bool) → length marks ≡ 25 → r < 25 → new ≡ (isMarked marks r || t)
+    → set marks r new ≡ markedToo (λ i. eqb i r && t) marks
+one-marked marks r new t h l e =
+    marked-set (λ i. false) marks (λ i. eqb i r && t) marks r new t (marked-none (λ i. false) marks h (λ i l. refl)) l e (λ i l. refl)
 
 -- a loop over groups, by a number that each row has, its Y or its own: the rows whose number is below end were asked
 module _ (f : ℕ → Bool) (marks : List Bool) (y : ℕ → ℕ) where
@@ -209,7 +213,7 @@ pub begun-by-row :
     (f : ℕ → Bool) (marks : List Bool) (new t : Bool) → length marks ≡ 25 → t ≡ f 0 → new ≡ (isMarked marks 0 || t)
     → set marks 0 new ≡ markedToo (upTo f marks (λ i. i) 1) marks
 begun-by-row f marks new t h e n =
-    up-start f marks (λ i. i) 1 _ (first-marked marks new (f 0) h (n ∙ ap (λ (b : Bool). isMarked marks 0 || b) e)) (omega arith) refl (λ i q. omega arith)
+    up-start f marks (λ i. i) 1 _ (one-marked marks 0 new (f 0) h (omega arith) (n ∙ ap (λ (b : Bool). isMarked marks 0 || b) e)) (omega arith) refl (λ i q. omega arith)
 
 -- the rows that a byte of a row's own reaches
 module _ (tall : ℕ → Bool) (row : ℕ) (marks : List Bool) where

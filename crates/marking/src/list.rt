@@ -41,6 +41,16 @@ fn reach(marks: &mut [bool; 25], memory: &[u8], z: u8, yor: u8, row: u8)
     }
 }
 
+// The row that has a byte at Y in one of the blocks among its own. No row above it or below it is asked.
+fn own_row(marks: &mut [bool; 25], z: u8, yor: u8, y: u8, blocks: [u8; 3])
+    requires { ⌜ length (now marks) ≡ 25 ⌝ }
+    ensures { λ _. ⌜ now (marks .exit) ≡ markedToo (λ r. eqb r (rowAt yor y) && someCodeBlock z blocks) (now (marks .entry)) ⌝ }
+{
+    let r = row_at(yor, y) as usize;
+    let marked = marks[r];
+    marks[r] = marked | some_code_block(z, blocks);
+}
+
 // The rows that read a byte at Y in one of the blocks as one of their own, or of a row above.
 fn own_marks(marks: &mut [bool; 25], memory: &[u8], z: u8, yor: u8, y: u8, blocks: [u8; 3])
     requires { ⌜ (length (now marks) ≡ 25) × (length (now memory) ≡ memoryBytes) × (z < boardBlocks) ⌝ }
@@ -89,7 +99,7 @@ fn slice_marks(marks: &mut [bool; 25], memory: &[u8], z: u8, yor: u8, keys: Keys
     }
 }
 
-// The rows whose list holds a byte at X and Y in one of the blocks; 255 is none.
+// The rows whose list holds a byte at X and Y in one of the blocks; 255 is none. In 80 columns a list is the row's own bytes.
 pub fn list_marks(
     marks: &mut [bool; 25],
     shown: Shown,
@@ -103,6 +113,10 @@ pub fn list_marks(
 {
     let z = shown.first_block();
     let yor = shown.yor();
+    if shown.is_eighty() {
+        own_row(marks, z, yor, y, blocks);
+        return;
+    }
     own_marks(marks, memory, z, yor, y, blocks);
     let keys = keys_of(shown, x, y, blocks);
     if is_source(keys) {

@@ -1,4 +1,4 @@
-// What a store marks, and what the three stores of a code do, which differ in the block alone.
+// What a store marks, and what the three stores of a code and the two of a position of 80 columns do, which differ in the block alone.
 ghost use mathlib.Core.Path.{_≡_};
 ghost use mathlib.Core.Bool.{true};
 ghost use Prim.Native.Nat.{_+_, _*_, _<_};
@@ -8,11 +8,12 @@ ghost use Rattle.address.specs.Boards.{boardBlocks, memoryBytes};
 ghost use Rattle.address.specs.Triples.{legal, onPage};
 ghost use Rattle.address.specs.Places.{placeOf};
 ghost use Rattle.page.specs.Marks.{markedToo};
-ghost use Rattle.reading.specs.Marks.{storeMarks, storesMarks, codeStores};
+ghost use Rattle.reading.specs.Marks.{storeMarks, storesMarks, codeStores, narrowStores};
 ghost use Rattle.marking.specs.HowMarked.{isUnmarked, changedBlock, someOnList, changeMarks};
 use crate::list::list_marks;
 use address::place::block;
 use address::place::place_at;
+use address::position::attributes_at;
 use address::triple::Triple;
 use keys::key::some_changed;
 use shown::Shown;
@@ -98,6 +99,31 @@ pub fn code_marks(
         changed_block(memory, here, block(at.z, 0), c),
         changed_block(memory, here, block(at.z, 1), b),
         changed_block(memory, here, block(at.z, 2), a),
+    ];
+    if !some_changed(blocks) {
+        return marks;
+    }
+    change_marks(marks, shown, memory, at.x, at.y, blocks)
+}
+
+// The marks after C and the attributes of its column are stored at a legal triple's place and at theirs; the stores themselves come after.
+pub fn narrow_marks(
+    marks: [bool; 25],
+    shown: Shown,
+    memory: &[u8],
+    at: Triple,
+    c: u8,
+    a: u8,
+) -> [bool; 25]
+    requires { ⌜ (length (now memory) ≡ memoryBytes) × (legal at ≡ true) ⌝ }
+    ensures { λ r. ⌜ r ≡ storesMarks shown (now (memory .entry)) (narrowStores at c a) marks ⌝ }
+{
+    let here = place_at(at.x as u16, at.y as u16, 0);
+    let attributes = attributes_at(at);
+    let blocks = [
+        changed_block(memory, here, at.z, c),
+        changed_block(memory, here, attributes.z, a),
+        255,
     ];
     if !some_changed(blocks) {
         return marks;

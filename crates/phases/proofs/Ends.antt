@@ -4,21 +4,36 @@ use Prim.Native.Nat.{ℕ}
 use mathlib.Core.Path.{_≡_, sym, _∙_}
 use mathlib.Core.Bool.{Bool, true, false}
 use mathlib.Core.List.{List}
+use Rattle.basics.specs.Below.{anyBelow}
+use Rattle.basics.proofs.Below.{any-same}
 use Rattle.address.specs.Rows.{rowY}
 use Rattle.shown.specs.declared.Shown.{Shown}
+use Rattle.shown.specs.Modes.{isEighty}
 use Rattle.shown.specs.Origins.{yorOf, firstBlock}
 use Rattle.shown.specs.Refusals.{canDraw}
+use Rattle.page.specs.Codes.{codeOf}
+use Rattle.page.specs.Inputs.{flashes}
 use Rattle.page.specs.Marks.{markedToo}
-use Rattle.reading.specs.Marks.{flashIn, phaseMarks}
+use Rattle.narrow.specs.Codes.{pairFlashes}
+use Rattle.reading.specs.Marks.{columnFlashes, flashIn, phaseMarks}
 use Rattle.reading.proofs.Marking.{marked-same}
-use Rattle.asking.specs.HowAsked.{flashAt}
 
--- a phase change, by the block and the origin that the code has
+-- the test of a column, by the mode
+module _ (shown : Shown) (code : List ℕ) where
+  pub forty-flashes : isEighty shown ≡ false → flashes code ≡ columnFlashes shown code
+  forty-flashes e = rw e
+
+  pub eighty-flashes : isEighty shown ≡ true → pairFlashes code ≡ columnFlashes shown code
+  eighty-flashes e = rw e
+
+-- a phase change, by the test, the block and the origin that the code has
 pub flash-made :
-    (shown : Shown) (m : List ℕ) (z yor : ℕ) (marks after : List Bool) → z ≡ firstBlock shown → yor ≡ yorOf shown
-    → after ≡ markedToo (λ r. flashAt m z (rowY yor r)) marks → after ≡ markedToo (flashIn shown m) marks
+    (shown : Shown) (m : List ℕ) (z yor : ℕ) (marks after : List Bool) (f : List ℕ → Bool) → ((code : List ℕ) → f code ≡ columnFlashes shown code)
+    → z ≡ firstBlock shown → yor ≡ yorOf shown → after ≡ markedToo (λ r. anyBelow (λ x. f (codeOf m z (rowY yor r) x)) 40) marks
+    → after ≡ markedToo (flashIn shown m) marks
 unfolding flashIn
-flash-made shown m z yor marks after ez eo e = e ∙ marked-same _ marks _ (λ i l. rw (ez, eo))
+flash-made shown m z yor marks after f ef ez eo e =
+    e ∙ marked-same _ marks _ (λ i l. rw (ez, eo) (any-same _ _ 40 (λ x h. ef (codeOf m (firstBlock shown) (rowY (yorOf shown) i) x))))
 
 -- the two ends of a phase change
 module _ (shown : Shown) (drawn : Bool) (learnt : drawn ≡ canDraw shown) where

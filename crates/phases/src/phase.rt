@@ -7,11 +7,12 @@ ghost use Rattle.address.specs.Boards.{boardBlocks, memoryBytes};
 ghost use Rattle.address.specs.Rows.{rowY};
 ghost use Rattle.page.specs.Marks.{markedToo};
 ghost use Rattle.reading.specs.Marks.{flashIn, phaseMarks};
-ghost use Rattle.asking.specs.HowAsked.{flashAt};
+ghost use Rattle.asking.specs.HowAsked.{flashAt, pairFlashAt};
 ghost use Rattle.marking.specs.HowMarked.{inGroup};
 ghost use Rattle.phases.specs.HowPhases.{areQuiet};
 use address::row::row_y;
 use asking::row::is_marked_or_flashes;
+use asking::row::is_marked_or_pair_flashes;
 use asking::row::near_blinks;
 use asking::row::service_flashes;
 use shown::Shown;
@@ -58,6 +59,17 @@ fn flash_in(marks: &mut [bool; 25], memory: &[u8], z: u8, yor: u8)
     }
 }
 
+// The rows that flash in 80 columns. A row that is marked already is not asked.
+fn pair_flash_in(marks: &mut [bool; 25], memory: &[u8], z: u8, yor: u8)
+    requires { ⌜ (length (now marks) ≡ 25) × (length (now memory) ≡ memoryBytes) × (z < boardBlocks) ⌝ }
+    ensures { λ _. ⌜ now (marks .exit) ≡ markedToo (λ r. pairFlashAt (now (memory .entry)) z (rowY yor r)) (now (marks .entry)) ⌝ }
+{
+    for r in 0..25usize {
+        let marked = marks[r];
+        marks[r] = is_marked_or_pair_flashes(memory, z, row_y(yor, r as u8), marked);
+    }
+}
+
 fn flash_marks(marks: [bool; 25], shown: Shown, memory: &[u8]) -> [bool; 25]
     requires { ⌜ length (now memory) ≡ memoryBytes ⌝ }
     ensures { λ r. ⌜ r ≡ markedToo (flashIn shown (now (memory .entry))) marks ⌝ }
@@ -65,6 +77,10 @@ fn flash_marks(marks: [bool; 25], shown: Shown, memory: &[u8]) -> [bool; 25]
     let z = shown.first_block();
     let yor = shown.yor();
     let mut after = marks;
+    if shown.is_eighty() {
+        pair_flash_in(&mut after, memory, z, yor);
+        return after;
+    }
     flash_in(&mut after, memory, z, yor);
     after
 }

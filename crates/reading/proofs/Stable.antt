@@ -3,7 +3,7 @@
 -- Assumes nothing.
 use Prim.Native.Nat.{ℕ, zero, suc, _<_}
 use mathlib.Core.Path.{_≡_, refl, sym, ap, _∙_}
-use mathlib.Core.Bool.{Bool, true, false, _&&_, _||_, false≢true}
+use mathlib.Core.Bool.{Bool, true, false, not, _&&_, _||_, false≢true}
 use mathlib.Core.List.{List}
 use mathlib.Core.Logic.{⊎-elim}
 use borrow.Author.Tests.{eq-eqb}
@@ -14,6 +14,7 @@ use Rattle.basics.proofs.Choice.{bool-cases, and-both, or-left, or-right}
 use Rattle.basics.proofs.Below.{any-hit, any-same}
 use Rattle.address.specs.Places.{byteAt}
 use Rattle.shown.specs.declared.Shown.{Shown}
+use Rattle.shown.specs.Modes.{isEighty}
 use Rattle.page.specs.Codes.{codeOf, codeAt}
 use Rattle.page.specs.Halves.{isTall}
 use Rattle.reading.specs.Lists.{codePlace, codeHolds, rowHolds, cellHolds, slicesHold, hasTall, aboveHolds, onList}
@@ -44,6 +45,9 @@ module _ (shown : Shown) (r x : ℕ) (l : x < 40) where
 module _ (shown : Shown) (m n : List ℕ) where
   abbrev pub Own : ℕ → Type 0
   Own r = Agree (λ p. rowHolds shown p r) m n
+
+  abbrev pub Sliced : ℕ → Type 0
+  Sliced r = Agree (λ p. slicesHold shown m p r) m n
 
   abbrev pub Up : ℕ → Type 0
   Up r = Agree (λ p. aboveHolds shown m p r) m n
@@ -85,14 +89,27 @@ module _ (shown : Shown) (m n : List ℕ) (r : ℕ) (agree : AgreeOnList shown m
   unfolding onList
   its-own p h = agree p (or-left _ _ h)
 
-  pub its-up : Up shown m n r
-  unfolding onList
-  its-up p h = agree p (or-right (rowHolds shown p r) _ (or-right (slicesHold shown m p r) _ h))
+  -- in 40 columns the slices of its cells, and what it reaches above
+  module _ (forty : isEighty shown ≡ false) where
+    pub its-slices : Sliced shown m n r
+    unfolding onList
+    its-slices p h = agree p (or-right (rowHolds shown p r) _ (rw forty (or-left _ _ h)))
+
+    pub its-up : Up shown m n r
+    unfolding onList
+    its-up p h = agree p (or-right (rowHolds shown p r) _ (rw forty (or-right (slicesHold shown m p r) _ h)))
 
   -- its list is the same
   pub list-same : (p : ℕ) → onList shown m p r ≡ onList shown n p r
   unfolding onList
-  list-same p = rw (slices-same shown m n p r its-own, above-same shown m n p r its-own its-up)
+  list-same p = go (isEighty shown) refl
+    where
+      go :
+          (b : Bool) → isEighty shown ≡ b
+          → (rowHolds shown p r || (not b && (slicesHold shown m p r || aboveHolds shown m p r)))
+          ≡ (rowHolds shown p r || (not b && (slicesHold shown n p r || aboveHolds shown n p r)))
+      go true e = refl
+      go false e = rw (slices-same shown m n p r its-own, above-same shown m n p r its-own (its-up e))
 
 -- a byte that is on no list of the row: the memories agree on what is on it
 pub agree-off : (shown : Shown) (m : List ℕ) (p v r : ℕ) → onList shown m p r ≡ false → AgreeOnList shown m (set m p v) r

@@ -1,7 +1,7 @@
 -- The reading list of a row, as a test on places: p is on row r's list.
 -- Assumes nothing.
 use Prim.Native.Nat.{ℕ, zero, suc}
-use mathlib.Core.Bool.{Bool, false, _&&_, _||_}
+use mathlib.Core.Bool.{Bool, false, not, _&&_, _||_}
 use mathlib.Core.List.{List}
 use lib.Dec.{eqb}
 use Rattle.basics.specs.Below.{anyBelow}
@@ -11,6 +11,7 @@ use Rattle.address.specs.Slices.{slicePlaceOf}
 use Rattle.address.specs.declared.slice.SlicePlace.{SlicePlace}
 use Rattle.address.specs.declared.slice.SlicePlace.the-variants.{At, NoByte}
 use Rattle.shown.specs.declared.Shown.{Shown}
+use Rattle.shown.specs.Modes.{isEighty}
 use Rattle.shown.specs.Origins.{yorOf, firstBlock}
 use Rattle.page.specs.Codes.{codeAt}
 use Rattle.page.specs.Halves.{isTall}
@@ -58,5 +59,6 @@ unfoldable pub aboveHolds : Shown → List ℕ → ℕ → ℕ → Bool
 aboveHolds shown m p zero = false
 aboveHolds shown m p (suc r) = hasTall shown m (suc r) && (rowHolds shown p r || aboveHolds shown m p r)
 
+-- in 80 columns its list is its 120 bytes, and nothing else
 unfoldable pub onList : Shown → List ℕ → ℕ → ℕ → Bool
-onList shown m p r = rowHolds shown p r || (slicesHold shown m p r || aboveHolds shown m p r)
+onList shown m p r = rowHolds shown p r || (not (isEighty shown) && (slicesHold shown m p r || aboveHolds shown m p r))

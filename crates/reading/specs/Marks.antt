@@ -7,10 +7,13 @@ use lib.Dec.{eqb}
 use lib.ListN.{set}
 use Rattle.basics.specs.Choice.{pick}
 use Rattle.basics.specs.Below.{anyBelow}
+use Rattle.address.specs.Narrow.{attributesAt}
 use Rattle.address.specs.Places.{placeAt, blockAt, byteAt}
 use Rattle.address.specs.declared.triple.Triple.{Triple}
 use Rattle.shown.specs.declared.Shown.{Shown}
+use Rattle.shown.specs.Modes.{isEighty}
 use Rattle.shown.specs.Refusals.{canDraw}
+use Rattle.narrow.specs.Codes.{pairFlashes}
 use Rattle.page.specs.Codes.{codeAt}
 use Rattle.page.specs.Inputs.{flashes}
 use Rattle.page.specs.Marks.{markedToo}
@@ -47,10 +50,21 @@ codeStores t c b a =
     ∷ record { place = placeAt (blockAt t 2); value = a }
     ∷ []
 
--- row r has a bichrome cell whose A3 is set
-unfoldable pub flashIn : Shown → List ℕ → ℕ → Bool
-flashIn shown m r = anyBelow (λ x. flashes (codeAt shown m r x)) 40
+-- C to the block Z, and the attributes of its column to theirs
+unfoldable pub narrowStores : Triple → ℕ → ℕ → List Store
+narrowStores t c a =
+    record { place = placeAt t; value = c }
+    ∷ record { place = placeAt (attributesAt t); value = a }
+    ∷ []
 
--- A changed phase marks rows with a bichrome cell whose A3 is set; while a draw would get 7 or 8 it marks nothing
+-- a column with a bichrome cell whose A3 is set; in 80 columns, with a cell that has C7 = 0 and the flash bit
+abbrev pub columnFlashes : Shown → List ℕ → Bool
+columnFlashes shown code = pick (isEighty shown) (pairFlashes code) (flashes code)
+
+-- row r has one
+unfoldable pub flashIn : Shown → List ℕ → ℕ → Bool
+flashIn shown m r = anyBelow (λ x. columnFlashes shown (codeAt shown m r x)) 40
+
+-- A changed phase marks rows with a cell that flashes; while a draw would get 7 or 8 it marks nothing
 unfoldable pub phaseMarks : Shown → List ℕ → List Bool → List Bool
 phaseMarks shown m marks = pick (canDraw shown) (markedToo (flashIn shown m) marks) marks

@@ -1,10 +1,11 @@
 use mathlib.Core.Path.{sym, ap, _∙_}
 use mathlib.Core.Bool.{Bool, _&&_, and-false}
+use native.Mathlib.Omega.{arith}
 use lib.Dec.{eqb}
 use Rattle.page.specs.Codes.{codeOf}
 use Rattle.reading.proofs.Marking.{marked-none}
 use Rattle.asking.proofs.Rows.{no-character}
-use Rattle.marking.proofs.Loops.{first-marked}
+use Rattle.marking.proofs.Loops.{one-marked}
 use borrow.Author.Needs.{needs}
 use Rattle.marking.proofs.list.service_marks.Statement.{statement}
 use Rattle.marking.proofs.list.service_marks.Tie as tie
@@ -22,7 +23,7 @@ element-write-marks : tie.Need-element-write-marks
 element-write-marks c = search needs
 
 returns : tie.Need-returns
-returns c = first-marked _ _ _ (c .before .before .before .before .before .pre .0) (c .is-marked-or-keyed .ensures)
+returns c = one-marked _ 0 _ _ (c .before .before .before .before .before .pre .0) (omega arith) (c .is-marked-or-keyed .ensures)
 
 returns-2 : tie.Need-returns-2
 returns-2 c = let b = c .before .before .before in
