@@ -19,7 +19,7 @@ use Rattle.basics.proofs.Below.{any-not, count-none, count-step}
 use Rattle.basics.proofs.Parts.{Each, joined-same, joined-part, parts-joined}
 use Rattle.basics.proofs.Filled.{filled, filled-none, filled-part, filled-keep, filled-end}
 use Rattle.shown.specs.Lengths.{rowBytes, pictureBytes}
-use Rattle.lines.proofs.Lengths.{rows-long, part-long}
+use Rattle.shown.proofs.Lengths.{rows-long, part-long}
 use Rattle.page.specs.Marks.{isMarked, markedRows}
 use Rattle.picture.specs.Redraws.{rowAfter, redrawnRows, freshRows}
 

@@ -1,2 +1,4 @@
 pub mod AnyRows
+pub mod Rows
 pub mod Redrawing
+pub mod Registers

@@ -1,11 +1,14 @@
 // The redrawing of the marked rows: no other byte changes.
 ghost use mathlib.Core.Path.{_≡_};
+ghost use mathlib.Core.Bool.{false};
 ghost use lib.ListN.{length};
 ghost use Rattle.basics.specs.Below.{anyBelow};
 ghost use Rattle.address.specs.Boards.{memoryBytes};
-ghost use Rattle.shown.specs.Lengths.{romBytes, columnBytes, pictureBytes};
+ghost use Rattle.shown.specs.Lengths.{romBytes, fortyBytes, pictureBytes};
+ghost use Rattle.shown.specs.Modes.{isEighty, columnBytes};
 ghost use Rattle.page.specs.Marks.{isMarked, markedRows};
 ghost use Rattle.picture.specs.Redraws.{redrawn};
+use crate::eighty_rows::redraw_eighty;
 use halves::half::lower_halves_after;
 use halves::half::right_halves_of;
 use page::code::row_buffer;
@@ -24,7 +27,7 @@ fn some_marked(marks: [bool; 25]) -> bool
     found
 }
 
-// Row by row. The lower halves of a row that was just drawn are kept for the row below it.
+// Row by row, in 40 columns. The lower halves of a row that was just drawn are kept for the row below it.
 fn redraw_rows(
     picture: &mut [u8],
     memory: &[u8],
@@ -32,7 +35,7 @@ fn redraw_rows(
     shown: Shown,
     marks: [bool; 25],
 ) -> usize
-    requires { ⌜ (length (now picture) ≡ pictureBytes columnBytes) × (length (now memory) ≡ memoryBytes) × (length (now rom) ≡ romBytes) ⌝ }
+    requires { ⌜ (length (now picture) ≡ pictureBytes fortyBytes) × (length (now memory) ≡ memoryBytes) × (length (now rom) ≡ romBytes) × (isEighty shown ≡ false) ⌝ }
     ensures { λ n. ⌜ (now (picture .exit) ≡ redrawn marks (now (picture .entry)) (now (memory .entry)) (now (rom .entry)) shown) × (n ≡ markedRows marks 25) ⌝ }
 {
     let mut rows = 0;
@@ -70,11 +73,14 @@ pub fn redraw(
     shown: Shown,
     marks: [bool; 25],
 ) -> usize
-    requires { ⌜ (length (now picture) ≡ pictureBytes columnBytes) × (length (now memory) ≡ memoryBytes) × (length (now rom) ≡ romBytes) ⌝ }
+    requires { ⌜ (length (now picture) ≡ pictureBytes (columnBytes shown)) × (length (now memory) ≡ memoryBytes) × (length (now rom) ≡ romBytes) ⌝ }
     ensures { λ n. ⌜ (now (picture .exit) ≡ redrawn marks (now (picture .entry)) (now (memory .entry)) (now (rom .entry)) shown) × (n ≡ markedRows marks 25) ⌝ }
 {
-    if some_marked(marks) {
-        return redraw_rows(picture, memory, rom, shown, marks);
+    if !some_marked(marks) {
+        return 0;
     }
-    0
+    if shown.is_eighty() {
+        return redraw_eighty(picture, memory, rom, shown, marks);
+    }
+    redraw_rows(picture, memory, rom, shown, marks)
 }

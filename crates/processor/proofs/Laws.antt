@@ -1,6 +1,6 @@
 -- Laws of pointers and registers.
 -- Assumes nothing.
-use Prim.Native.Nat.{ℕ, _+_, _-_, _/_, _%_, _<_}
+use Prim.Native.Nat.{ℕ, _+_, _-_, _/_, _%_, _<_, _≤_}
 use mathlib.Core.Path.{_≡_, refl, ap, _∙_}
 use mathlib.Core.Bool.{Bool, true, false}
 use mathlib.Core.List.{List}
@@ -8,13 +8,13 @@ use native.Mathlib.Omega.{arith}
 use lib.Dec.{eqb}
 use lib.Seq.{getD-set-other}
 use borrow.Author.Tests.{eq-eqb, ne-eqb}
-use Rattle.basics.specs.Bits.{bits}
+use Rattle.basics.specs.Bits.{bits, isSet}
 use Rattle.address.specs.Triples.{legal}
 use Rattle.address.specs.declared.triple.Triple.{Triple}
 use Rattle.address.proofs.Places.{legal-x}
 use Rattle.processor.specs.declared.state.Processor.{Processor}
 use Rattle.processor.specs.States.{Chip, chip, registerOf, withRegister, withLx, cleared}
-use Rattle.processor.specs.Pointers.{pointerOf, nextX, incremented}
+use Rattle.processor.specs.Pointers.{pointerOf, nextX, incremented, nextPosition, advanced}
 use Rattle.processor.specs.Bytes.{stored, codeRead, codeStored}
 
 -- registers 1 to 3 and the LX bits and marks are no part of a pointer
@@ -94,6 +94,24 @@ module _ (auxiliary : Bool) (p : Processor) (v : ℕ) where
         let b : bits 0 6 (registerOf p 7) ≡ 39 → ⊥ = λ q. h (omega arith) in
         let n : v + 1 ≡ nextX (registerOf p 7) = next-more v h ∙ ap nextX e in
         rw (a, ne-eqb _ _ b, n)
+
+-- the three ways of KRL's increment; v is the byte that the code took out of R7
+module _ (p : Processor) (v : ℕ) (e : v ≡ registerOf p 7) where
+  pub position-odd : v < 128 → withRegister p 7 (v + 128) ≡ advanced p
+  unfolding advanced nextPosition
+  position-odd l = let even : bits 7 1 (registerOf p 7) ≡ 1 → ⊥ = λ q. omega arith in rw (ne-eqb _ _ even, e)
+
+  module _ (l : 128 ≤ v) (h : v < 256) where
+    odd : isSet 7 (registerOf p 7) ≡ true
+    odd = let b : bits 7 1 (registerOf p 7) ≡ 1 = omega arith in eq-eqb _ _ b
+
+    pub position-last : (v - 128) % 64 ≡ 39 → withLx (withRegister p 7 (v - 128 - 39)) true (p .lxa) ≡ advanced p
+    unfolding advanced nextPosition
+    position-last x = let b : bits 0 6 (registerOf p 7) ≡ 39 = omega arith in rw (odd, eq-eqb _ _ b, next-last (v - 128) x, e)
+
+    pub position-next : ((v - 128) % 64 ≡ 39 → ⊥) → withRegister p 7 (v - 128 + 1) ≡ advanced p
+    unfolding advanced nextPosition
+    position-next x = let b : bits 0 6 (registerOf p 7) ≡ 39 → ⊥ = λ q. x (omega arith) in rw (odd, ne-eqb _ _ b, next-more (v - 128) x, e)
 
 -- after the access to memory the pointer is where it was, so its X may be incremented
 module _ (auxiliary : Bool) (p free q : Processor) (f : free ≡ cleared p) (ok : legal (pointerOf auxiliary p) ≡ true) where

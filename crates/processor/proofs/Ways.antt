@@ -2,7 +2,7 @@
 -- Assumes nothing.
 use Prim.Native.Nat.{ℕ, _+_, _*_, _/_, _<_, _≤_}
 use mathlib.Core.Path.{_≡_, refl, sym, ap, _∙_}
-use mathlib.Core.Bool.{Bool, true, false, not, _&&_, _||_, false≢true}
+use mathlib.Core.Bool.{Bool, true, false, not, _||_, false≢true}
 use mathlib.Core.List.{List}
 use native.Mathlib.Omega.{arith}
 use lib.Dec.{eqb}
@@ -12,24 +12,27 @@ use Rattle.basics.specs.Bits.{bits}
 use Rattle.basics.proofs.Choice.{or-neither}
 use Rattle.basics.specs.Choice.{pick}
 use Rattle.address.specs.Boards.{boardBlocks, memoryBytes}
+use Rattle.address.specs.Narrow.{isOdd, attributesAt, nibbleInto}
 use Rattle.address.specs.Places.{placeOf, blockOf, placeAt, blockAt, loaded}
 use Rattle.address.specs.declared.triple.Triple.{Triple}
 use Rattle.address.specs.Triples.{legal}
 use Rattle.address.proofs.Laws.{legal-page, legal-block}
 use Rattle.address.proofs.Places.{place-within, place-block}
 use Rattle.shown.specs.declared.Shown.{Shown}
-use Rattle.shown.specs.Lengths.{romBytes, columnBytes, pictureBytes}
+use Rattle.shown.specs.Lengths.{romBytes, pictureBytes}
+use Rattle.shown.specs.Modes.{isEighty, columnBytes}
 use Rattle.shown.specs.Refusals.{refused7, refused8}
+use Rattle.shown.proofs.Refusals.{asked-none, asked-some, asked-length}
 use Rattle.page.specs.Marks.{allMarked, noneMarked, markedRows}
 use Rattle.picture.specs.Redraws.{redrawn}
-use Rattle.reading.specs.Marks.{storesMarks, codeStores, phaseMarks}
+use Rattle.reading.specs.Marks.{storesMarks, codeStores, narrowStores, phaseMarks}
 use Rattle.command.specs.declared.answer.Answer.{Answer}
 use Rattle.command.specs.declared.answer.Answer.the-variants.{Accepted, WrongMemory, WrongAddress, WrongPhase}
 use Rattle.command.specs.declared.answer.Drawing.the-variants as drawing
 use Rattle.processor.specs.declared.state.Processor.{Processor}
 use Rattle.processor.specs.States.{Chip, chip, registerOf, shownOf, withRegister, withIndirect, withMarks, withPhase, cleared, indirectWritten}
 use Rattle.processor.specs.Pointers.{pointerOf, incrementedIf}
-use Rattle.processor.specs.Bytes.{stored, oct, codeStored}
+use Rattle.processor.specs.Bytes.{stored, oct, codeStored, narrowStored}
 use Rattle.processor.specs.Access.{Outcome, outcome, checked, phased, turned}
 use Rattle.processor.specs.Draws.{drawOutcome, drawn, drawnPage}
 use Rattle.processor.proofs.Laws.{high-bits}
@@ -103,6 +106,15 @@ pub code-stored :
 unfolding codeStored stored storesMarks codeStores
 code-stored t k shown after i0 i1 i2 es ea e0 e1 e2 = rw (ea, es, e0, e1, e2)
 
+-- the two stores of a 12-bit code: the marks of both, and the byte of attributes as the code works it out from the one that it read
+pub narrow-stored :
+    (t : Triple) (k : Chip) (odd : Bool) (beside : Triple) (byte a : ℕ) (shown : Shown) (after : List Bool) (i0 i1 : ℕ) → odd ≡ isOdd t → beside ≡ attributesAt t →
+    byte ≡ loaded beside (k .memory) → a ≡ nibbleInto odd byte (registerOf (k .processor) 3) → shown ≡ shownOf (k .processor) →
+    after ≡ storesMarks shown (k .memory) (narrowStores t (registerOf (k .processor) 1) a) (k .processor .marks) → i0 ≡ placeAt t → i1 ≡ placeAt beside →
+    chip (withMarks (k .processor) after) (set (set (k .memory) i0 (registerOf (k .processor) 1)) i1 a) ≡ narrowStored t k
+unfolding narrowStored stored storesMarks narrowStores
+narrow-stored t k odd beside byte a shown after i0 i1 eo eb ey ev es ea e0 e1 = rw (ea, es, e0, e1, ev, ey, eb, eo)
+
 -- where byte k of a code is stored
 pub code-place :
     (t : Triple) (k here block i : ℕ) → here ≡ placeOf (t .x) (t .y) 0 → block ≡ blockOf (t .z) k → i ≡ here + 1024 * block → i ≡ placeAt (blockAt t k)
@@ -137,7 +149,7 @@ module _ (n : ℕ) (k : Chip) where
         (ea ∙ ap (λ (w : Shown). phaseMarks w (k .memory) (k .processor .marks)) es)
         ∙ rw (eq-eqb _ _ e, le-leb _ _ l, ne-eqb _ _ s)
 
--- a draw: refused with 1, 5, 6, 7 and 8, and done
+-- a draw: refused with 1, 5, 7, 6 and 8, and done; n is the length that the mode asks for
 module _ (p : Processor) (m rom picture : List ℕ) where
   pub draw-memory-refused : (length m ≡ memoryBytes → ⊥) → drawOutcome p picture drawing.WrongMemory ≡ drawn p m rom picture
   unfolding drawn
@@ -148,30 +160,45 @@ module _ (p : Processor) (m rom picture : List ℕ) where
     unfolding drawn
     rom-refused e = rw (eq-eqb _ _ em, ne-eqb _ _ e)
 
-    module _ (er : length rom ≡ romBytes) where
-      pub picture-refused :
-          (length picture ≡ pictureBytes columnBytes → ⊥) → drawOutcome p picture drawing.WrongPicture ≡ drawn p m rom picture
-      unfolding drawn
-      picture-refused e = rw (eq-eqb _ _ em, eq-eqb _ _ er, ne-eqb _ _ e)
-
-      module _ (ep : length picture ≡ pictureBytes columnBytes) (shown : Shown) (es : shown ≡ shownOf p) (b7 : Bool) (e7 : b7 ≡ refused7 shown) where
-        pub draw-refused-7 : b7 ≡ true → drawOutcome p picture drawing.NotBuilt ≡ drawn p m rom picture
+    module _
+        (er : length rom ≡ romBytes) (shown : Shown) (es : shown ≡ shownOf p) (n : ℕ)
+        (asked : n ≡ pick (refused7 shown) 0 (pictureBytes (columnBytes shown)))
+      where
+        pub draw-refused-7 : n ≡ 0 → drawOutcome p picture drawing.NotBuilt ≡ drawn p m rom picture
         unfolding drawn
-        draw-refused-7 t = rw (eq-eqb _ _ em, eq-eqb _ _ er, eq-eqb _ _ ep, ← es, ← e7, t)
+        draw-refused-7 z = rw (eq-eqb _ _ em, eq-eqb _ _ er, ← es, asked-none shown n asked z)
 
-        module _ (f7 : b7 ≡ false) (b8 : Bool) (e8 : b8 ≡ refused8 shown) where
-          pub draw-refused-8 : b8 ≡ true → drawOutcome p picture drawing.LowOrigin ≡ drawn p m rom picture
+        module _ (some : n ≡ 0 → ⊥) where
+          pub picture-refused : (length picture ≡ n → ⊥) → drawOutcome p picture drawing.WrongPicture ≡ drawn p m rom picture
           unfolding drawn
-          draw-refused-8 t = rw (eq-eqb _ _ em, eq-eqb _ _ er, eq-eqb _ _ ep, ← es, ← e7, f7, ← e8, t)
+          picture-refused e =
+              rw (eq-eqb _ _ em, eq-eqb _ _ er, ← es, asked-some shown n asked some, ← asked-length shown n asked some, ne-eqb _ _ e)
 
-          pub draw-done :
-              b8 ≡ false → (after : List ℕ) (rows : ℕ) → after ≡ redrawn (p .marks) picture m rom shown → rows ≡ markedRows (p .marks) 25 →
-              drawOutcome (withMarks p noneMarked) after (drawing.Accepted rows) ≡ drawn p m rom picture
-          unfolding drawn drawnPage
-          draw-done f8 after rows ea en =
-              rw (ea, en, es, eq-eqb _ _ em, eq-eqb _ _ er, eq-eqb _ _ ep, ap refused7 (sym es) ∙ sym e7 ∙ f7, ap refused8 (sym es) ∙ sym e8 ∙ f8)
+          module _ (ep : length picture ≡ n) (b8 : Bool) (e8 : b8 ≡ refused8 shown) where
+            pub draw-refused-8 : b8 ≡ true → drawOutcome p picture drawing.LowOrigin ≡ drawn p m rom picture
+            unfolding drawn
+            draw-refused-8 t =
+                rw (eq-eqb _ _ em, eq-eqb _ _ er, ← es, asked-some shown n asked some, ← asked-length shown n asked some, eq-eqb _ _ ep, ← e8, t)
 
--- IND written: an equal value, MAT, and another value in another register
+            pub draw-done :
+                b8 ≡ false → (after : List ℕ) (rows : ℕ) → after ≡ redrawn (p .marks) picture m rom shown → rows ≡ markedRows (p .marks) 25 →
+                drawOutcome (withMarks p noneMarked) after (drawing.Accepted rows) ≡ drawn p m rom picture
+            unfolding drawn drawnPage
+            draw-done f8 after rows ea en =
+                rw (
+                  ea,
+                  en,
+                  eq-eqb _ _ em,
+                  eq-eqb _ _ er,
+                  ← es,
+                  asked-some shown n asked some,
+                  ← asked-length shown n asked some,
+                  eq-eqb _ _ ep,
+                  ← e8,
+                  f8,
+                )
+
+-- IND written: an equal value, MAT in 40 columns, and another value that a page is drawn by
 module _ (p : Processor) (r : ℕ) where
   abbrev entered : List ℕ
   entered = set (p .indirect) r (registerOf p 1)
@@ -180,14 +207,11 @@ module _ (p : Processor) (r : ℕ) where
   unfolding indirectWritten
   equal-written e = rw (eq-eqb _ _ e)
 
-  pub mat-written : r ≡ 2 → withIndirect p entered (p .marks) ≡ indirectWritten p r
-  unfolding indirectWritten
-  mat-written e = ap (withIndirect p entered) (mat (eqb (getD (p .indirect) r 0) (registerOf p 1)) (eqb r 2) (eq-eqb r 2 e))
-    where
-      mat : (a b : Bool) → b ≡ true → p .marks ≡ pick (not a && not b) allMarked (p .marks)
-      mat true b h = refl
-      mat false b h = rw h
+  module _ (e : getD (p .indirect) r 0 ≡ registerOf p 1 → ⊥) (shown : Shown) (es : shown ≡ shownOf p) (eighty : Bool) (ee : eighty ≡ isEighty shown) where
+    pub mat-written : (not (eqb r 2) || eighty) ≡ false → withIndirect p entered (p .marks) ≡ indirectWritten p r
+    unfolding indirectWritten
+    mat-written f = rw (ne-eqb _ _ e, ← es, ← ee, f)
 
-  pub other-written : (getD (p .indirect) r 0 ≡ registerOf p 1 → ⊥) → (r ≡ 2 → ⊥) → withIndirect p entered allMarked ≡ indirectWritten p r
-  unfolding indirectWritten
-  other-written e m = rw (ne-eqb _ _ e, ne-eqb _ _ m)
+    pub other-written : (not (eqb r 2) || eighty) ≡ true → withIndirect p entered allMarked ≡ indirectWritten p r
+    unfolding indirectWritten
+    other-written t = rw (ne-eqb _ _ e, ← es, ← ee, t)

@@ -18,7 +18,7 @@ use Rattle.processor.specs.declared.state.Processor.{Processor}
 use Rattle.processor.specs.declared.execute.Answered.{Answered}
 use Rattle.processor.specs.States.{Chip, chip, registerOf, registerRead, shownOf, withRegister, withPhase, indirectRead, indirectWritten}
 use Rattle.processor.specs.Pointers.{pointerOf}
-use Rattle.processor.specs.Bytes.{oct, krf}
+use Rattle.processor.specs.Bytes.{oct, krf, krl}
 
 -- what is left, and the answer
 pub record Outcome : Type 0 where
@@ -37,6 +37,7 @@ isUnlisted command.the-variants.Nop = false
 isUnlisted (command.the-variants.Ind r reads) = false
 isUnlisted (command.the-variants.Krf reads increments) = false
 isUnlisted (command.the-variants.Oct reads auxiliary increments) = false
+isUnlisted (command.the-variants.Krl reads increments) = false
 isUnlisted command.the-variants.NotListed = true
 
 -- 4: its pointer has X above 39 or Y from 1 to 7
@@ -45,6 +46,7 @@ isAstray command.the-variants.Nop p = false
 isAstray (command.the-variants.Ind r reads) p = false
 isAstray (command.the-variants.Krf reads increments) p = not (legal (pointerOf false p))
 isAstray (command.the-variants.Oct reads auxiliary increments) p = not (legal (pointerOf auxiliary p))
+isAstray (command.the-variants.Krl reads increments) p = not (legal (pointerOf false p))
 isAstray command.the-variants.NotListed p = false
 
 -- R1 to or from a register
@@ -58,6 +60,7 @@ effect command.the-variants.Nop k = k
 effect (command.the-variants.Ind r reads) k = chip (indirect r reads (k .processor)) (k .memory)
 effect (command.the-variants.Krf reads increments) k = krf reads increments k
 effect (command.the-variants.Oct reads auxiliary increments) k = oct reads auxiliary increments k
+effect (command.the-variants.Krl reads increments) k = krl reads increments k
 effect command.the-variants.NotListed k = k
 
 -- a command runs, after the access that gave the value v. Access is checked .. 3, 4

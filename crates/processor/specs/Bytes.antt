@@ -4,12 +4,13 @@ use Prim.Native.Nat.{ℕ}
 use mathlib.Core.Bool.{Bool, true, false}
 use mathlib.Core.List.{List}
 use lib.ListN.{set}
+use Rattle.address.specs.Narrow.{isOdd, attributesAt, nibbleFor, nibbleInto, bothHalves}
 use Rattle.address.specs.Places.{placeAt, blockAt, loaded}
 use Rattle.address.specs.declared.triple.Triple.{Triple}
 use Rattle.reading.specs.Marks.{storeMarks}
 use Rattle.processor.specs.declared.state.Processor.{Processor}
 use Rattle.processor.specs.States.{Chip, chip, registerOf, shownOf, withRegister, withMarks, cleared}
-use Rattle.processor.specs.Pointers.{pointerOf, incrementedIf}
+use Rattle.processor.specs.Pointers.{pointerOf, incrementedIf, advancedIf}
 
 -- a store: the byte, and the marks by the lists just before it
 unfoldable pub stored : Triple → ℕ → Chip → Chip
@@ -48,3 +49,24 @@ krf false increments k =
     let p = k .processor in
     let s = codeStored (pointerOf false p) (chip (cleared p) (k .memory)) in
     chip (incrementedIf increments false (s .processor)) (s .memory)
+
+-- Read, R1 is C and R3 has the nibble in both halves. R2 stays
+unfoldable pub narrowRead : Triple → Processor → List ℕ → Processor
+narrowRead t p m =
+    withRegister (withRegister p 1 (loaded t m)) 3 (bothHalves (nibbleFor (isOdd t) (loaded (attributesAt t) m)))
+
+-- Two stores, C first
+unfoldable pub narrowStored : Triple → Chip → Chip
+narrowStored t k =
+    stored (attributesAt t) (nibbleInto (isOdd t) (loaded (attributesAt t) (k .memory)) (registerOf (k .processor) 3))
+    (stored t (registerOf (k .processor) 1) k)
+
+-- KRL at a legal main pointer
+unfoldable pub krl : Bool → Bool → Chip → Chip
+krl true increments k =
+    let p = k .processor in
+    chip (advancedIf increments (narrowRead (pointerOf false p) (cleared p) (k .memory))) (k .memory)
+krl false increments k =
+    let p = k .processor in
+    let s = narrowStored (pointerOf false p) (chip (cleared p) (k .memory)) in
+    chip (advancedIf increments (s .processor)) (s .memory)

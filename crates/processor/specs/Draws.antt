@@ -6,7 +6,8 @@ use lib.Dec.{eqb}
 use lib.ListN.{length}
 use Rattle.basics.specs.Choice.{pick}
 use Rattle.address.specs.Boards.{memoryBytes}
-use Rattle.shown.specs.Lengths.{romBytes, columnBytes, pictureBytes}
+use Rattle.shown.specs.Lengths.{romBytes, pictureBytes}
+use Rattle.shown.specs.Modes.{columnBytes}
 use Rattle.shown.specs.Refusals.{refused7, refused8}
 use Rattle.command.specs.declared.answer.Drawing.{Drawing}
 use Rattle.command.specs.declared.answer.Drawing.the-variants.{Accepted, WrongMemory, WrongRom, WrongPicture, NotBuilt, LowOrigin}
@@ -36,15 +37,15 @@ unfoldable pub drawnPage : Processor → List ℕ → List ℕ → List ℕ → 
 drawnPage p m rom picture =
     drawOutcome (withMarks p noneMarked) (redrawn (p .marks) picture m rom (shownOf p)) (Accepted (markedRows (p .marks) 25))
 
--- draw is checked 1, 5, 6, 7, 8
+-- draw is checked 1, 5, 7, 6, 8; 6 asks for the length that goes with the mode
 unfoldable pub drawn : Processor → List ℕ → List ℕ → List ℕ → DrawOutcome
 drawn p m rom picture =
     pick (eqb (length m) memoryBytes)
     (pick (eqb (length rom) romBytes)
-    (pick (eqb (length picture) (pictureBytes columnBytes))
     (pick (refused7 (shownOf p)) (drawOutcome p picture NotBuilt)
+    (pick (eqb (length picture) (pictureBytes (columnBytes (shownOf p))))
     (pick (refused8 (shownOf p)) (drawOutcome p picture LowOrigin)
-    (drawnPage p m rom picture)))
-    (drawOutcome p picture WrongPicture))
+    (drawnPage p m rom picture))
+    (drawOutcome p picture WrongPicture)))
     (drawOutcome p picture WrongRom))
     (drawOutcome p picture WrongMemory)

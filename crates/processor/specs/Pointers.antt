@@ -1,10 +1,10 @@
 -- The pointer that a command uses, and its increment.
 -- Assumes nothing.
 use Prim.Native.Nat.{ℕ, _+_, _-_}
-use mathlib.Core.Bool.{Bool, true}
+use mathlib.Core.Bool.{Bool, true, _&&_}
 use lib.Dec.{eqb}
 use Rattle.basics.specs.Choice.{pick}
-use Rattle.basics.specs.Bits.{bits}
+use Rattle.basics.specs.Bits.{bits, isSet}
 use Rattle.address.specs.Pointers.{mainPointer, auxiliaryPointer}
 use Rattle.address.specs.declared.triple.Triple.{Triple}
 use Rattle.processor.specs.declared.state.Processor.{Processor}
@@ -30,3 +30,17 @@ incremented auxiliary p =
 
 unfoldable pub incrementedIf : Bool → Bool → Processor → Processor
 incrementedIf asked auxiliary p = pick asked (incremented auxiliary p) p
+
+-- KRL's increment, of R7, whose bit 7 is Z0: from even to odd at the same X, from odd to the next X's even; from X 39, odd, to X 0, even
+unfoldable pub nextPosition : ℕ → ℕ
+nextPosition r7 = pick (isSet 7 r7) (nextX (r7 - 128)) (r7 + 128)
+
+-- and sets LXm
+unfoldable pub advanced : Processor → Processor
+advanced p =
+    pick (isSet 7 (registerOf p 7) && eqb (bits 0 6 (registerOf p 7)) 39)
+    (withLx (withRegister p 7 (nextPosition (registerOf p 7))) true (p .lxa))
+    (withRegister p 7 (nextPosition (registerOf p 7)))
+
+unfoldable pub advancedIf : Bool → Processor → Processor
+advancedIf asked p = pick asked (advanced p) p

@@ -7,6 +7,7 @@ use lib.Dec.{eqb}
 use lib.ListN.{getD, set}
 use Rattle.basics.specs.Choice.{pick, oneIf}
 use Rattle.shown.specs.declared.Shown.{Shown}
+use Rattle.shown.specs.Modes.{isEighty}
 use Rattle.page.specs.Marks.{allMarked}
 use Rattle.processor.specs.declared.state.Processor.{Processor}
 
@@ -61,7 +62,7 @@ statusOf p = 64 * oneIf (p .lxm || p .lxa) + 32 * oneIf (p .lxm) + 16 * oneIf (p
 unfoldable pub registerRead : Processor → ℕ → ℕ
 registerRead p n = pick (eqb n 0) (statusOf p) (registerOf p n)
 
--- An accepted KRF or OCT first clears both LX bits
+-- An accepted KRF, OCT or KRL first clears both LX bits
 abbrev pub cleared : Processor → Processor
 cleared p = withLx p false false
 
@@ -69,11 +70,11 @@ cleared p = withLx p false false
 abbrev pub indirectRead : Processor → ℕ → Processor
 indirectRead p r = withRegister p 1 (getD (p .indirect) r 0)
 
--- IND: R1 to the register r. A changed value in ROR, DOR, PAT or TGS marks all 25. (2 is MAT.)
+-- IND: R1 to the register r. A changed value in ROR, DOR, PAT or TGS marks all 25; in 80 columns one in MAT too. (2 is MAT.)
 unfoldable pub indirectWritten : Processor → ℕ → Processor
 indirectWritten p r =
     withIndirect p (set (p .indirect) r (registerOf p 1))
-    (pick (not (eqb (getD (p .indirect) r 0) (registerOf p 1)) && not (eqb r 2)) allMarked (p .marks))
+    (pick (not (eqb (getD (p .indirect) r 0) (registerOf p 1)) && (not (eqb r 2) || isEighty (shownOf p))) allMarked (p .marks))
 
 -- the chip: the state with the private memory
 pub record Chip : Type 0 where

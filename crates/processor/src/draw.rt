@@ -5,7 +5,6 @@ use crate::state::Processor;
 use address::board::MEMORY_BYTES;
 use command::answer::Drawing;
 use picture::redraw::redraw;
-use shown::length::PICTURE_BYTES;
 use shown::length::ROM_BYTES;
 
 // The state after a draw, with the answer.
@@ -35,12 +34,13 @@ impl Processor {
         if rom.len() != ROM_BYTES {
             return refused(self, Drawing::WrongRom);
         }
-        if picture.len() != PICTURE_BYTES {
-            return refused(self, Drawing::WrongPicture);
-        }
         let shown = self.shown();
-        if shown.is_refused_7() {
+        let asked = shown.picture_asked();
+        if asked == 0 {
             return refused(self, Drawing::NotBuilt);
+        }
+        if picture.len() != asked {
+            return refused(self, Drawing::WrongPicture);
         }
         if shown.is_refused_8() {
             return refused(self, Drawing::LowOrigin);

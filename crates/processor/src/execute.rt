@@ -10,6 +10,7 @@ ghost use Rattle.processor.specs.Access.{outcomeOf, isUnlisted, isAstray
 use crate::byte::krf;
 use crate::byte::oct;
 use crate::pointer::pointer;
+use crate::position::krl;
 use crate::state::Processor;
 use address::triple::is_legal;
 use command::Command;
@@ -39,6 +40,7 @@ fn is_unlisted(command: Command) -> bool
         Command::Ind(_, _) => false,
         Command::Krf(_, _) => false,
         Command::Oct(_, _, _) => false,
+        Command::Krl(_, _) => false,
         Command::NotListed => true,
     }
 }
@@ -52,6 +54,7 @@ fn is_astray(command: Command, p: Processor) -> bool
         Command::Ind(_, _) => false,
         Command::Krf(_, _) => !is_legal(pointer(p, false)),
         Command::Oct(_, auxiliary, _) => !is_legal(pointer(p, auxiliary)),
+        Command::Krl(_, _) => !is_legal(pointer(p, false)),
         Command::NotListed => false,
     }
 }
@@ -68,6 +71,7 @@ fn effect(p: Processor, memory: &mut [u8], command: Command) -> Processor
         Command::Oct(reads, auxiliary, increments) => {
             oct(p, memory, reads, auxiliary, increments)
         }
+        Command::Krl(reads, increments) => krl(p, memory, reads, increments),
         Command::NotListed => p,
     }
 }

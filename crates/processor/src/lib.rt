@@ -4,4 +4,5 @@ pub mod byte;
 pub mod draw;
 pub mod execute;
 pub mod pointer;
+pub mod position;
 pub mod state;

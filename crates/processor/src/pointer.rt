@@ -1,7 +1,7 @@
-// The pointer that a command uses, and its increment.
+// The pointer that a command uses, and its increments.
 ghost use mathlib.Core.Path.{_≡_};
 ghost use Prim.Native.Nat.{_<_};
-ghost use Rattle.processor.specs.Pointers.{pointerOf, incremented, incrementedIf};
+ghost use Rattle.processor.specs.Pointers.{pointerOf, incremented, incrementedIf, advanced, advancedIf};
 use crate::state::Processor;
 use address::pointer::auxiliary_pointer;
 use address::pointer::main_pointer;
@@ -56,6 +56,34 @@ pub fn increment_if(p: Processor, asked: bool, auxiliary: bool) -> Processor
 {
     if asked {
         return increment(p, auxiliary);
+    }
+    p
+}
+
+// The next position: the odd one of the column, and from that the even one of the next; from the last to the first, with LXm.
+pub fn advance(mut p: Processor) -> Processor
+    ensures { λ r. ⌜ r ≡ advanced p ⌝ }
+{
+    let old = byte(p.registers[7]);
+    if old < 128 {
+        p.registers[7] = old + 128;
+        return p;
+    }
+    let even = old - 128;
+    if even % 64 == 39 {
+        p.registers[7] = even - 39;
+        p.lxm = true;
+        return p;
+    }
+    p.registers[7] = even + 1;
+    p
+}
+
+pub fn advance_if(p: Processor, asked: bool) -> Processor
+    ensures { λ r. ⌜ r ≡ advancedIf asked p ⌝ }
+{
+    if asked {
+        return advance(p);
     }
     p
 }

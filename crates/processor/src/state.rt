@@ -83,10 +83,11 @@ impl Processor {
         self
     }
 
-    // R1 to an indirect register: a changed value marks every row, except in MAT.
+    // R1 to an indirect register: a changed value marks every row, in MAT only in 80 columns.
     pub fn indirect_written(mut self, r: u8) -> Self
         ensures { λ p. ⌜ p ≡ indirectWritten self (r % 8) ⌝ }
     {
+        let shown = self.shown();
         let i = (r % 8) as usize;
         let value = self.registers[1];
         let old = self.indirect[i];
@@ -94,7 +95,8 @@ impl Processor {
         if old == value {
             return self;
         }
-        if i == 2 {
+        let drawn_by = (i != 2) | shown.is_eighty();
+        if !drawn_by {
             return self;
         }
         self.marks = [true; 25];

@@ -1,9 +1,9 @@
 use Rattle.picture.proofs.AnyRows.{DrawnTo, start, keep}
 use Rattle.picture.proofs.Redrawing.{drew-row, redrawn-end, not-known, known-next}
-use Rattle.rows.specs.Rows.{rowOf}
+use Rattle.rows.specs.Rows.{fortyRow}
 use Rattle.page.specs.Marks.{isMarked}
 use Rattle.page.specs.HowHalves.{KnownAbove}
-use Rattle.shown.specs.Lengths.{columnBytes}
+use Rattle.shown.specs.Lengths.{fortyBytes}
 use borrow.Author.Tests.{not-true, not-false}
 use native.Mathlib.Omega.{arith}
 use Prim.Native.Nat.{_+_, _-_}
@@ -12,7 +12,7 @@ use Rattle.picture.proofs.redraw.redraw_rows.Statement.{statement}
 use Rattle.picture.proofs.redraw.redraw_rows.Tie as tie
 
 abbrev Inv-loop : tie.InvT-loop
-Inv-loop picture₀ memory rom shown marks rows₀ known₀ halves₀ r₀ picture rows known halves r = DrawnTo columnBytes marks picture₀ (rowOf memory rom shown) picture rows r × KnownAbove shown memory r known halves
+Inv-loop picture₀ memory rom shown marks rows₀ known₀ halves₀ r₀ picture rows known halves r = DrawnTo fortyBytes marks picture₀ (fortyRow memory rom shown) picture rows r × KnownAbove shown memory r known halves
 
 abbrev μ-loop : tie.MeasureT-loop
 μ-loop picture₀ memory rom shown marks rows₀ known₀ halves₀ r₀ picture rows known halves r = 25 - r
@@ -33,7 +33,7 @@ loop-again : tie.Need-loop-again Inv-loop μ-loop
 loop-again c = let t = c .before in
     let l = t .before .loop in
     let a = t .before .before .before .before .before .args in (
-      keep columnBytes _ _ (rowOf (a .memory .now) (a .rom .now) (a .shown)) _ _ _ (l .inv .0) (t .loop-test .taken) (not-true (isMarked (a .t5) (l .r)) (c .if1 .taken)),
+      keep fortyBytes _ _ (fortyRow (a .memory .now) (a .rom .now) (a .shown)) _ _ _ (l .inv .0) (t .loop-test .taken) (not-true (isMarked (a .t5) (l .r)) (c .if1 .taken)),
       not-known (a .memory .now) (a .shown) (l .r + 1) (l .halves),
     )
 
@@ -102,8 +102,8 @@ same-length c = search needs
 
 returns : tie.Need-returns Inv-loop μ-loop
 returns c = let l = c .before .loop in
-    let a = c .before .before .before .before .before .args in
-    redrawn-end _ _ (a .memory .now) (a .rom .now) (a .shown) _ _ _ (l .inv .0) (c .loop-test .left)
+    let s = c .before .before .before .before .before in
+    redrawn-end _ _ (s .args .memory .now) (s .args .rom .now) (s .args .shown) _ _ _ (l .inv .0) (s .pre .3) (c .loop-test .left)
 
 pub redraw-rows-spec : {M : Type 1} → statement M
 redraw-rows-spec =

@@ -25,6 +25,12 @@ enum-known-command-3 c = search needs
 oct-requires : tie.Need-oct-requires
 oct-requires c κs = (search needs, not-false _ (rw (c .before .before .command3 .given .1) at (c .before .before .before .before .before .pre .2)))
 
+enum-known-command-4 : tie.Need-enum-known-command-4
+enum-known-command-4 c = search needs
+
+krl-requires : tie.Need-krl-requires
+krl-requires c κs = (search needs, not-false _ (rw (c .before .before .command4 .given .1) at (c .before .before .before .before .before .pre .2)))
+
 enum-told-2 : tie.Need-enum-told-2
 enum-told-2 c = search needs
 
@@ -47,8 +53,14 @@ same-length-2 c = search needs
 returns-4 : tie.Need-returns-4
 returns-4 c = let b = c .before .before in rw (b .before .before .before .command3 .given .1) (b .oct .ensures)
 
+same-length-3 : tie.Need-same-length-3
+same-length-3 c = search needs
+
 returns-5 : tie.Need-returns-5
-returns-5 c = rw (c .enum-told2 .given .1)
+returns-5 c = let b = c .before .before in rw (b .before .before .before .command4 .given .1) (b .krl .ensures)
+
+returns-6 : tie.Need-returns-6
+returns-6 c = rw (c .enum-told2 .given .1)
 
 pub effect-spec : {M : Type 1} → statement M
 effect-spec =
@@ -61,6 +73,8 @@ effect-spec =
     krf-requires
     enum-known-command-3
     oct-requires
+    enum-known-command-4
+    krl-requires
     enum-told-2
     returns
     returns-2
@@ -68,4 +82,6 @@ effect-spec =
     returns-3
     same-length-2
     returns-4
-    returns-5)
+    same-length-3
+    returns-5
+    returns-6)

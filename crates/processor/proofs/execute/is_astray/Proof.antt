@@ -30,6 +30,15 @@ is-legal-requires-2 c κs = search needs
 enum-told-4 : tie.Need-enum-told-4
 enum-told-4 c = search needs
 
+pointer-requires-3 : tie.Need-pointer-requires-3
+pointer-requires-3 c κs = search needs
+
+is-legal-requires-3 : tie.Need-is-legal-requires-3
+is-legal-requires-3 c κs = search needs
+
+enum-told-5 : tie.Need-enum-told-5
+enum-told-5 c = search needs
+
 returns : tie.Need-returns
 returns c = rw (c .enum-told .given .1) refl
 
@@ -43,7 +52,10 @@ returns-4 : tie.Need-returns-4
 returns-4 c = rw (c .before .before .before .command .given .1, c .is-legal2 .ensures, c .before .pointer2 .ensures)
 
 returns-5 : tie.Need-returns-5
-returns-5 c = rw (c .enum-told4 .given .1) refl
+returns-5 c = rw (c .before .before .enum-told4 .given .1, c .is-legal3 .ensures, c .before .pointer3 .ensures)
+
+returns-6 : tie.Need-returns-6
+returns-6 c = rw (c .enum-told5 .given .1) refl
 
 pub is-astray-spec : {M : Type 1} → statement M
 is-astray-spec =
@@ -58,8 +70,12 @@ is-astray-spec =
     pointer-requires-2
     is-legal-requires-2
     enum-told-4
+    pointer-requires-3
+    is-legal-requires-3
+    enum-told-5
     returns
     returns-2
     returns-3
     returns-4
-    returns-5)
+    returns-5
+    returns-6)

@@ -1,5 +1,7 @@
 use Rattle.processor.proofs.Ways.{draw-memory-refused, rom-refused, picture-refused, draw-refused-7, draw-refused-8, draw-done}
 use Rattle.basics.specs.Parts.{joined}
+use Rattle.shown.proofs.Refusals.{asked-length}
+use mathlib.Core.Path.{_∙_}
 use borrow.Author.Needs.{needs}
 use Rattle.processor.proofs.state.Processor.draw.Statement.{statement}
 use Rattle.processor.proofs.state.Processor.draw.Tie as tie
@@ -17,29 +19,33 @@ returns-2 : tie.Need-returns-2
 returns-2 c = let t = c .before in
     rw (c .refused2 .ensures) (rom-refused _ _ _ _ (t .before .if1 .left) (t .if2 .taken))
 
+shown-requires : tie.Need-shown-requires
+shown-requires c κs = search needs
+
+picture-asked-requires : tie.Need-picture-asked-requires
+picture-asked-requires c κs = search needs
+
 refused-requires-3 : tie.Need-refused-requires-3
 refused-requires-3 c κs = search needs
 
 returns-3 : tie.Need-returns-3
 returns-3 c = let t = c .before in
-    rw (c .refused3 .ensures) (picture-refused _ _ _ _ (t .before .before .if1 .left) (t .before .if2 .left) (t .if3 .taken))
-
-shown-requires : tie.Need-shown-requires
-shown-requires c κs = search needs
-
-is-refused-7-requires : tie.Need-is-refused-7-requires
-is-refused-7-requires c κs = search needs
+    let q = t .before in
+    let h = q .before in
+    let e = h .before in
+    rw (c .refused3 .ensures) (draw-refused-7 _ _ _ _ (e .before .if1 .left) (e .if2 .left) _ (h .shown .ensures) _ (q .picture-asked .ensures) (t .if3 .taken))
 
 refused-requires-4 : tie.Need-refused-requires-4
 refused-requires-4 c κs = search needs
 
 returns-4 : tie.Need-returns-4
 returns-4 c = let t = c .before in
-    let q = t .before in
+    let g = t .before in
+    let q = g .before in
     let h = q .before in
     let e = h .before in
     rw (c .refused4 .ensures)
-    (draw-refused-7 _ _ _ _ (e .before .before .if1 .left) (e .before .if2 .left) (e .if3 .left) _ (h .shown .ensures) _ (q .is-refused-7 .ensures) (t .if4 .taken))
+    (picture-refused _ _ _ _ (e .before .if1 .left) (e .if2 .left) _ (h .shown .ensures) _ (q .picture-asked .ensures) (g .if3 .left) (t .if4 .taken))
 
 is-refused-8-requires : tie.Need-is-refused-8-requires
 is-refused-8-requires c κs = search needs
@@ -50,16 +56,19 @@ refused-requires-5 c κs = search needs
 returns-5 : tie.Need-returns-5
 returns-5 c = let t = c .before in
     let o = t .before in
-    let g = o .before in
+    let f = o .before in
+    let g = f .before in
     let q = g .before in
     let h = q .before in
     let e = h .before in
     rw (c .refused5 .ensures)
-    (draw-refused-8 _ _ _ _ (e .before .before .if1 .left) (e .before .if2 .left) (e .if3 .left) _ (h .shown .ensures) _ (q .is-refused-7 .ensures) (g .if4 .left)
-    _ (o .is-refused-8 .ensures) (t .if5 .taken))
+    (draw-refused-8 _ _ _ _ (e .before .if1 .left) (e .if2 .left) _ (h .shown .ensures) _ (q .picture-asked .ensures) (g .if3 .left)
+    (f .if4 .left) _ (o .is-refused-8 .ensures) (t .if5 .taken))
 
 redraw-requires : tie.Need-redraw-requires
-redraw-requires c κs = search needs
+redraw-requires c κs = let f = c .before .before .before .before in
+    let g = f .before in
+    (f .if4 .left ∙ asked-length _ _ (g .before .picture-asked .ensures) (g .if3 .left), search needs, search needs)
 
 same-length : tie.Need-same-length
 same-length c = search needs
@@ -69,12 +78,13 @@ unfolding joined
 returns-6 c = let r = c .before .before .before in
     let t = r .before .before .before in
     let o = t .before in
-    let g = o .before in
+    let f = o .before in
+    let g = f .before in
     let q = g .before in
     let h = q .before in
     let e = h .before in
-    draw-done _ _ _ _ (e .before .before .if1 .left) (e .before .if2 .left) (e .if3 .left) _ (h .shown .ensures) _ (q .is-refused-7 .ensures) (g .if4 .left)
-    _ (o .is-refused-8 .ensures) (t .if5 .left) _ _ (r .redraw .ensures .0) (r .redraw .ensures .1)
+    draw-done _ _ _ _ (e .before .if1 .left) (e .if2 .left) _ (h .shown .ensures) _ (q .picture-asked .ensures) (g .if3 .left)
+    (f .if4 .left) _ (o .is-refused-8 .ensures) (t .if5 .left) _ _ (r .redraw .ensures .0) (r .redraw .ensures .1)
 
 pub draw-spec : {M : Type 1} → statement M
 draw-spec =
@@ -84,10 +94,10 @@ draw-spec =
     returns
     refused-requires-2
     returns-2
+    shown-requires
+    picture-asked-requires
     refused-requires-3
     returns-3
-    shown-requires
-    is-refused-7-requires
     refused-requires-4
     returns-4
     is-refused-8-requires
