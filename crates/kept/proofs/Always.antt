@@ -2,7 +2,7 @@
 -- Assumes nothing.
 use Prim.Native.Nat.{ℕ, _<_}
 use mathlib.Core.Path.{_≡_, refl, sym, ap, subst, _∙_}
-use mathlib.Core.Bool.{Bool, true, false, not, _&&_, false≢true}
+use mathlib.Core.Bool.{Bool, true, false, not, _&&_, _||_, false≢true}
 use mathlib.Core.List.{List}
 use mathlib.Core.Logic.{_≢_, _⊎_, inl, inr, ⊎-elim}
 use native.Mathlib.Omega.{arith}
@@ -18,12 +18,15 @@ use Rattle.address.specs.Places.{placeAt}
 use Rattle.address.specs.declared.triple.Triple.{Triple}
 use Rattle.shown.specs.declared.Shown.{Shown}
 use Rattle.address.specs.Boards.{memoryBytes}
-use Rattle.shown.specs.Lengths.{romBytes, columnBytes, rowBytes, pictureBytes}
+use Rattle.shown.specs.Lengths.{romBytes, rowBytes, pictureBytes}
+use Rattle.shown.specs.Modes.{isEighty, columnBytes}
+use Rattle.shown.specs.Refusals.{refused7}
+use Rattle.shown.proofs.Modes.{bytes-same}
 use Rattle.shown.proofs.Refusals.{can-draw-same}
 use Rattle.page.specs.Marks.{isMarked, allMarked}
 use Rattle.picture.specs.Redraws.{redrawn, fresh}
 use Rattle.picture.proofs.Redrawing.{redrawn-fresh, fresh-part}
-use Rattle.rows.proofs.Registers.{row-ignores}
+use Rattle.picture.proofs.Registers.{row-ignores}
 use Rattle.processor.specs.declared.state.Processor.{Processor}
 use Rattle.command.specs.declared.answer.Drawing.{Drawing}
 use Rattle.command.specs.Answers.{drawNumberOf}
@@ -42,10 +45,12 @@ use Rattle.kept.proofs.Refusals.{refusal-stays}
 use Rattle.kept.proofs.Walk.{draw-known, KeptBy, noneBarred, write-keeps, read-keeps, turn-keeps, run-known}
 use Rattle.kept.proofs.Steps.{store-before, store-keeps, phase-before, phase-keeps}
 
-either-holds : (a b : Bool) → (not a && not b) ≡ false → (a ≡ true) ⊎ (b ≡ true)
-either-holds true b e = inl refl
-either-holds false true e = inr refl
-either-holds false false e = absurd (false≢true (sym e))
+-- no change, or MAT in 40 columns
+unmarked-change : (a b c : Bool) → (not a && (not b || c)) ≡ false → (a ≡ true) ⊎ ((b ≡ true) × (c ≡ false))
+unmarked-change true b c e = inl refl
+unmarked-change false true false e = inr (refl, refl)
+unmarked-change false true true e = absurd (false≢true (sym e))
+unmarked-change false false c e = absurd (false≢true (sym e))
 
 -- every row is marked at power-up
 all-marked : (r : ℕ) → r < 25 → isMarked allMarked r ≡ true
@@ -63,27 +68,33 @@ module _ (rom picture : List ℕ) where
       let b = f r l (store-before shown (k .memory) (placeAt t) v (p .marks) r l e) in
       (b .0, b .1 ∙ sym (store-keeps shown (k .memory) (placeAt t) v (p .marks) (b .0) r l e rom))
 
-  -- IND: an equal value leaves the register, MAT is not looked at, and any other change marks every row
+  -- IND: an equal value leaves the register, MAT is not looked at in 40 columns, and any other change marks every row
   module _ (i : List ℕ) (phase : ℕ) (marks : List Bool) (m : List ℕ) (f : FreshOn (shownBy i phase) marks m rom picture) where
     equal-fresh : (r v : ℕ) → getD i r 0 ≡ v → FreshOn (shownBy (set i r v) phase) marks m rom picture
     equal-fresh r v e =
         subst (λ (j : List ℕ). FreshOn (shownBy j phase) marks m rom picture) (sym (ap (set i r) (sym e) ∙ set-getD i r 0)) f
 
-    mat-fresh : (v : ℕ) → FreshOn (shownBy (set i 2 v) phase) marks m rom picture
-    mat-fresh v s l e =
+    mat-fresh : (v : ℕ) → isEighty (shownBy i phase) ≡ false → FreshOn (shownBy (set i 2 v) phase) marks m rom picture
+    mat-fresh v forty s l e =
         let old = shownBy i phase in
         let new = shownBy (set i 2 v) phase in
         let tgs = getD-set-other i 2 1 v 0 (λ q. omega arith) in
         let pat = getD-set-other i 2 3 v 0 (λ q. omega arith) in
         let dor = getD-set-other i 2 4 v 0 (λ q. omega arith) in
-        let ror = getD-set-other i 2 7 v 0 (λ q. omega arith) in
-        (can-draw-same new old tgs pat ror ∙ f s l e .0, f s l e .1 ∙ sym (row-ignores new old pat dor ror refl m rom s))
+        let ror = getD-set-other i 2 7 v 0 (λ q. omega arith) in (
+          can-draw-same new old tgs pat ror ∙ f s l e .0,
+          ap (λ (k : ℕ). partOf (rowBytes k) picture s) (bytes-same new old tgs)
+              ∙ f s l e .1
+              ∙ row-ignores old new (sym tgs) (sym pat) (sym dor) (sym ror) m rom s forty refl,
+        )
 
-    same-or-mat : (r v : ℕ) → (not (eqb (getD i r 0) v) && not (eqb r 2)) ≡ false → FreshOn (shownBy (set i r v) phase) marks m rom picture
+    same-or-mat :
+        (r v : ℕ) → (not (eqb (getD i r 0) v) && (not (eqb r 2) || isEighty (shownBy i phase))) ≡ false →
+        FreshOn (shownBy (set i r v) phase) marks m rom picture
     same-or-mat r v e =
         ⊎-elim (λ t. equal-fresh r v (eqb-true _ _ t))
-        (λ t. subst (λ (j : ℕ). FreshOn (shownBy (set i j v) phase) marks m rom picture) (sym (eqb-true r 2 t)) (mat-fresh v))
-        (either-holds (eqb (getD i r 0) v) (eqb r 2) e)
+        (λ t. subst (λ (j : ℕ). FreshOn (shownBy (set i j v) phase) marks m rom picture) (sym (eqb-true r 2 (t .0))) (mat-fresh v (t .1)))
+        (unmarked-change (eqb (getD i r 0) v) (eqb r 2) (isEighty (shownBy i phase)) e)
 
   marked-fresh : (shown : Shown) (m : List ℕ) → FreshOn shown allMarked m rom picture
   marked-fresh shown m s l e = absurd (false≢true (sym e ∙ all-marked s l))
@@ -94,7 +105,7 @@ module _ (rom picture : List ℕ) where
       let p = k .processor in
       let new = shownBy (set (p .indirect) r (registerOf p 1)) (p .phase) in
       pick-known (λ (marks : List Bool). FreshOn new marks (k .memory) rom picture)
-      (not (eqb (getD (p .indirect) r 0) (registerOf p 1)) && not (eqb r 2)) allMarked (p .marks)
+      (not (eqb (getD (p .indirect) r 0) (registerOf p 1)) && (not (eqb r 2) || isEighty (shownOf p))) allMarked (p .marks)
       (λ e. marked-fresh new (k .memory))
       (λ e. same-or-mat (p .indirect) (p .phase) (p .marks) (k .memory) f r (registerOf p 1) e)
 
@@ -116,8 +127,12 @@ module _ (rom picture : List ℕ) where
       let turned = shownBy (p .indirect) n in
       pick-known FreshChip (eqb (p .phase) n) k _ (λ e. f)
       (λ e r l u.
-      let b = f r l (phase-before shown (k .memory) (p .marks) r l u) in
-      (can-draw-same turned shown refl refl refl ∙ b .0, b .1 ∙ phase-keeps shown (k .memory) (p .marks) r l turned refl refl refl (b .0) u rom))
+      let b = f r l (phase-before shown (k .memory) (p .marks) r l u) in (
+        can-draw-same turned shown refl refl refl ∙ b .0,
+        ap (λ (k : ℕ). partOf (rowBytes k) picture r) (bytes-same turned shown refl)
+            ∙ b .1
+            ∙ phase-keeps shown (k .memory) (p .marks) r l turned refl refl refl refl refl (b .0) u rom,
+      ))
 
 -- the draw, of a picture whose unmarked rows are fresh: an accepted one leaves the fresh picture
 module _ (p : Processor) (m rom picture : List ℕ) (f : Fresh p m rom picture) where
@@ -140,7 +155,7 @@ module _ (p : Processor) (m rom picture : List ℕ) (f : Fresh p m rom picture) 
 
     page-left : isShown p ≡ true → LeftFresh (drawnPage p m rom picture)
     unfolding drawnPage
-    page-left can r l e = (can, ap (λ (q : List ℕ). partOf (rowBytes columnBytes) q r) page-kept ∙ fresh-part m rom seen r l)
+    page-left can r l e = (can, ap (λ (q : List ℕ). partOf (rowBytes (columnBytes seen)) q r) page-kept ∙ fresh-part m rom seen r l)
 
     page-drawn : DrawnFresh (drawnPage p m rom picture)
     unfolding drawnPage
@@ -185,11 +200,15 @@ module _ (x y z : Lent) (w : World) where
       pick-either (λ i. i ≢ 0) (not (eqb (length m) memoryBytes)) 1 _ (λ e. absurd (omega arith))
       (rw (ne-eqb (length rom) romBytes n) (λ e. absurd (omega arith)))
 
-  wrong-picture : length picture ≢ pictureBytes columnBytes → Refused
+  abbrev asked : ℕ
+  asked = pictureBytes (columnBytes (shownOf (w .processor)))
+
+  wrong-picture : length picture ≢ asked → Refused
   wrong-picture n =
       pick-either (λ i. i ≢ 0) (not (eqb (length m) memoryBytes)) 1 _ (λ e. absurd (omega arith))
       (pick-either (λ i. i ≢ 0) (not (eqb (length rom) romBytes)) 5 _ (λ e. absurd (omega arith))
-      (rw (ne-eqb (length picture) (pictureBytes columnBytes) n) (λ e. absurd (omega arith))))
+      (pick-either (λ i. i ≢ 0) (refused7 (shownOf (w .processor))) 7 _ (λ e. absurd (omega arith))
+      (rw (ne-eqb (length picture) asked n) (λ e. absurd (omega arith)))))
 
 -- each operation, and so each run
 same-fresh : (w u : World) → u ≡ w → FreshIn w → FreshIn u

@@ -1,7 +1,7 @@
 -- Demand 2: three code bytes written to R1, R2 and R3 and stored by KRF are the three that KRF reads back.
 -- Assumes nothing.
-use Prim.Native.Nat.{ℕ, _<_, _≤_}
-use mathlib.Core.Path.{_≡_, refl, sym, ap, subst, _∙_}
+use Prim.Native.Nat.{ℕ, _≤_}
+use mathlib.Core.Path.{_≡_, refl, ap, _∙_}
 use mathlib.Core.Bool.{Bool, true, false}
 use mathlib.Core.List.{List, [], _∷_, _++_}
 use native.Mathlib.Omega.{arith}
@@ -11,19 +11,17 @@ use Rattle.address.specs.Pointers.{mainPointer}
 use Rattle.address.specs.Triples.{legal}
 use Rattle.command.specs.declared.Command.the-variants.{Krf}
 use Rattle.command.specs.Commands.{commandOf}
-use Rattle.processor.specs.declared.state.Processor.{Processor}
-use Rattle.processor.specs.Access.{isAstray}
-use Rattle.processor.specs.States.{registerOf, withRegisters}
-use Rattle.processor.specs.Pointers.{pointerOf}
+use Rattle.processor.specs.States.{registerOf}
 use Rattle.processor.specs.Sizes.{Sized}
-use Rattle.kept.specs.Demands.{get, krfCode, codeReplies, CodeRoundTrip}
-use Rattle.kept.specs.Quiet.{commandRun, Quiet}
-use Rattle.kept.specs.Runs.{Operation, World, first, step, run, registered, reply, replyTo, replies}
+use Rattle.kept.specs.Demands.{krfCode, codeReplies, CodeRoundTrip}
+use Rattle.kept.specs.Quiet.{Quiet}
+use Rattle.kept.specs.Runs.{Operation, World, first, step, run, Reply, reply}
 use Rattle.kept.proofs.Memory.{run-long}
-use Rattle.kept.proofs.Programs.{get-step, get-reply, execute-reply, execute-runs, eight, quiet-both, replies-on, Put, to, puts, putInto, puts-set}
+use Rattle.kept.proofs.Pointed.{pointIn, Uses, Journey, trip, meant, same-pointer, stored-now, read-now, quiet-back, round-trip}
+use Rattle.kept.proofs.Programs.{eight, Put, to, putInto, answers, Holds}
 use Rattle.kept.proofs.RoundTrip.{code-kept-in}
 use Rattle.kept.proofs.Sizes.{run-sized, power-up-sized}
-use Rattle.kept.proofs.Trips.{Trip, storing, reading, then, then-sized, back, there, there-whole, there-sized, there-set, end, end-whole, trip-replies}
+use Rattle.kept.proofs.Trips.{Trip, storing, reading, back, end}
 
 krf-code : (reads increments : Bool) → commandOf (krfCode reads increments) ≡ Krf reads increments
 unfolding commandOf
@@ -32,107 +30,79 @@ krf-code true false = refl
 krf-code false true = refl
 krf-code false false = refl
 
-module _ (r6 r7 : ℕ) where
+krf-uses : (reads increments : Bool) → Uses false (krfCode reads increments) (Krf reads increments)
+krf-uses reads increments = record { is = krf-code reads increments; listed = refl; at = λ p. refl }
+
+abbrev values : ℕ → ℕ → ℕ → List Put
+values c b a = to 1 c ∷ to 2 b ∷ to 3 a ∷ []
+
+answered : (c b a : ℕ) → answers (values c b a) ≡ codeReplies c b a
+answered c b a = refl
+
+module _ (r6 r7 c b a : ℕ) where
   abbrev pointer : List Put
   pointer = to 6 r6 ∷ to 7 r7 ∷ []
 
-  -- what the registers of a list mean to KRF
-  abbrev Points : List ℕ → Type 0
-  Points l = mainPointer (getD l 6 0) (getD l 7 0) ≡ mainPointer r6 r7
+  abbrev coded : List Put
+  coded = pointer ++ values c b a
 
-  pointer-means : (code : ℕ) (l : List ℕ) → length l ≡ 8 → Points (set (putInto pointer l) 0 code)
-  pointer-means code l = eight (λ k. Points (set (putInto pointer k) 0 code)) (λ a b c d e f g h. refl) l
+  -- what R1, R2 and R3 hold
+  abbrev Codes : List ℕ → Type 0
+  Codes l = (getD l 1 0 ≡ c) × (getD l 2 0 ≡ b) × (getD l 3 0 ≡ a)
 
-  module _ (c b a : ℕ) where
-    abbrev coded : List Put
-    coded = pointer ++ to 1 c ∷ to 2 b ∷ to 3 a ∷ []
+  -- the trip from a world w
+  module _
+      (i j : Bool) (g : legal (mainPointer r6 r7) ≡ true) (w : World) (long : length (w .memory) ≡ memoryBytes) (s : Sized (w .processor))
+      (between : List Operation) where
+    abbrev journey : Journey false (mainPointer r6 r7) Codes (Krf false i) (Krf true j)
+    journey =
+        record {
+          ok = g;
+          pointers = pointer;
+          values = values c b a;
+          named = (omega arith, (omega arith, tt));
+          all-named = (omega arith, (omega arith, (omega arith, (omega arith, (omega arith, tt)))));
+          silent = λ w. (refl, (refl, tt));
+          points = λ code. eight (λ l. pointIn false (set (putInto pointer l) 0 code) ≡ mainPointer r6 r7) (λ a b c d e f g h. refl);
+          means =
+              λ code.
+              eight (λ l. (pointIn false (set (putInto coded l) 0 code) ≡ mainPointer r6 r7) × Codes (set (putInto coded l) 0 code))
+              (λ a b c d e f g h. (refl, (refl, refl, refl)));
+          store = krfCode false i;
+          load = krfCode true j;
+          stores = krf-uses false i;
+          loads = krf-uses true j;
+          from = w;
+          whole = long;
+          sized = s;
+          between = between;
+        }
 
-    abbrev Codes : List ℕ → Type 0
-    Codes l = Points l × (getD l 1 0 ≡ c) × (getD l 2 0 ≡ b) × (getD l 3 0 ≡ a)
+    abbrev t : Trip
+    t = trip _ _ _ _ _ journey
 
-    coded-means : (code : ℕ) (l : List ℕ) → length l ≡ 8 → Codes (set (putInto coded l) 0 code)
-    coded-means code l = eight (λ k. Codes (set (putInto coded k) 0 code)) (λ a b c d e f g h. (refl, refl, refl, refl)) l
+    kept :
+        Quiet between (step (storing t) (t .ready)) → (n : ℕ) → 1 ≤ n → n ≤ 3 →
+        registerOf (end t .processor) n ≡ getD (set (t .ready .processor .registers) 0 (krfCode false i)) n 0
+    kept quiet n l h =
+        code-kept-in (t .ready) (t .sized) (storing t) (back t) (reading t) i j refl (stored-now _ _ _ _ _ journey) (quiet-back _ _ _ _ _ journey quiet) refl
+        (read-now _ _ _ _ _ journey) (same-pointer _ _ _ _ _ journey) n l h
 
--- the trip from a world w
-module _
-    (w : World) (long : length (w .memory) ≡ memoryBytes) (s : Sized (w .processor)) (between : List Operation) (r6 r7 c b a : ℕ) (i j : Bool)
-    (g : legal (mainPointer r6 r7) ≡ true) where
-  abbrev writes : List Put
-  writes = coded r6 r7 c b a
-
-  abbrev t : Trip
-  t =
-      record {
-        ready = run (puts writes) w;
-        whole = run-long (puts writes) w memoryBytes long;
-        sized = run-sized (puts writes) w s;
-        store = krfCode false i;
-        between = between;
-        pointers = pointer r6 r7;
-        named = (omega arith, (omega arith, tt));
-        load = krfCode true j;
-      }
-
-  ready-set : t .ready .processor ≡ withRegisters (w .processor) (putInto writes (w .processor .registers))
-  ready-set =
-      ap (λ (u : World). u .processor)
-      (puts-set writes (omega arith, (omega arith, (omega arith, (omega arith, (omega arith, tt))))) w long)
-
-  meant : Codes r6 r7 c b a (registered (storing t) (t .ready) .registers)
-  meant =
-      subst (λ (p : Processor). Codes r6 r7 c b a (set (p .registers) 0 (krfCode false i))) (sym ready-set)
-      (coded-means r6 r7 c b a (krfCode false i) (w .processor .registers) (s .0))
-
-  meant-there : Points r6 r7 (registered (reading t) (there t) .registers)
-  meant-there =
-      subst (λ (p : Processor). Points r6 r7 (set (p .registers) 0 (krfCode true j))) (sym (there-set t))
-      (pointer-means r6 r7 (krfCode true j) (then t .processor .registers) (then-sized t .0))
-
-  -- the pointer is legal both times, so both commands run
-  stored-straight : isAstray (Krf false i) (registered (storing t) (t .ready)) ≡ false
-  unfolding pointerOf
-  stored-straight = rw (meant .0, g)
-
-  read-straight : isAstray (Krf true j) (registered (reading t) (there t)) ≡ false
-  unfolding pointerOf
-  read-straight = rw (meant-there, g)
-
-  same-pointer : pointerOf false (registered (reading t) (there t)) ≡ pointerOf false (registered (storing t) (t .ready))
-  unfolding pointerOf
-  same-pointer = meant-there ∙ sym (meant .0)
-
-  stored-now : commandRun (storing t) (t .ready) ≡ Krf false i
-  stored-now = execute-runs (t .ready) (t .whole) (t .sized) (t .store) (Krf false i) (krf-code false i) refl stored-straight
-
-  read-now : commandRun (reading t) (there t) ≡ Krf true j
-  read-now = execute-runs (there t) (there-whole t) (there-sized t) (t .load) (Krf true j) (krf-code true j) refl read-straight
-
-  read-reply : replyTo (reading t) (there t) ≡ reply 0 0
-  read-reply = execute-reply (there t) (there-whole t) (there-sized t) (t .load) (Krf true j) (krf-code true j) refl read-straight
-
-  module _ (quiet : Quiet between (step (storing t) (t .ready))) where
-    got : (n v : ℕ) → 1 ≤ n → n ≤ 3 → registerOf (registered (storing t) (t .ready)) n ≡ v → replyTo (get n) (end t) ≡ reply 0 v
-    got n v l h e =
-        get-reply (end t) (end-whole t) n l (omega arith)
-        ∙ ap (reply 0)
-        (code-kept-in (t .ready) (t .sized) (storing t) (back t) (reading t) i j refl stored-now
-        (quiet-both between (puts (pointer r6 r7)) (step (storing t) (t .ready)) quiet (refl, (refl, tt))) refl read-now same-pointer n l h
-        ∙ e)
-
-    stays : (n : ℕ) → n < 8 → step (get n) (end t) ≡ end t
-    stays n l = get-step (end t) (end-whole t) n l
-
-    got-three : replies (get 1 ∷ get 2 ∷ get 3 ∷ []) (end t) ≡ codeReplies c b a
-    got-three =
-        replies-on (get 1) (get 2 ∷ get 3 ∷ []) (end t) (end t) _ _ (got 1 c (omega arith) (omega arith) (meant .1)) (stays 1 (omega arith))
-        (replies-on (get 2) (get 3 ∷ []) (end t) (end t) _ _ (got 2 b (omega arith) (omega arith) (meant .2)) (stays 2 (omega arith))
-        (replies-on (get 3) [] (end t) (end t) _ _ (got 3 a (omega arith) (omega arith) (meant .3)) (stays 3 (omega arith)) refl))
-
-    trip :
-        replies (puts (pointer r6 r7) ++ reading t ∷ get 1 ∷ get 2 ∷ get 3 ∷ []) (then t) ≡ reply 0 0 ∷ reply 0 0 ∷ reply 0 0 ∷ codeReplies c b a
-    trip = trip-replies t (get 1 ∷ get 2 ∷ get 3 ∷ []) (codeReplies c b a) read-reply got-three
+    holds : Quiet between (step (storing t) (t .ready)) → Holds (values c b a) (end t .processor)
+    holds quiet =
+        let m = meant _ _ _ _ _ journey in (
+          (omega arith, omega arith, kept quiet 1 (omega arith) (omega arith) ∙ m .0),
+          (
+            (omega arith, omega arith, kept quiet 2 (omega arith) (omega arith) ∙ m .1),
+            ((omega arith, omega arith, kept quiet 3 (omega arith) (omega arith) ∙ m .2), tt),
+          ),
+        )
 
 pub code-round-trip : CodeRoundTrip
 code-round-trip m rom picture before between r6 r7 c b a i j e g quiet =
     let w = first m rom picture in
-    trip (run before w) (run-long before w memoryBytes e) (run-sized before w power-up-sized) between r6 r7 c b a i j g quiet
+    let u = run before w in
+    let long = run-long before w memoryBytes e in
+    let sized = run-sized before w power-up-sized in
+    round-trip _ _ _ _ _ (journey r6 r7 c b a i j g u long sized between) (values c b a) (holds r6 r7 c b a i j g u long sized between quiet)
+    ∙ ap (λ (l : List Reply). reply 0 0 ∷ reply 0 0 ∷ reply 0 0 ∷ l) (answered c b a)

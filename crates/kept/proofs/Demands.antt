@@ -6,18 +6,19 @@ use Rattle.kept.proofs.ByteTrip.{byte-round-trip}
 use Rattle.kept.proofs.CodeTrip.{code-round-trip}
 use Rattle.kept.proofs.Exact.{marks-exact}
 use Rattle.kept.proofs.Memory.{unused-stay}
+use Rattle.kept.proofs.NarrowTrip.{narrow-round-trip}
 use Rattle.kept.proofs.Numbers.{answered-in-order}
 use Rattle.kept.proofs.Reached.{each-number-reached}
 use Rattle.kept.proofs.ReachedDraws.{draws-reached}
 use Rattle.kept.proofs.Refusals.{refusal-leaves}
-use Rattle.kept.proofs.RoundTrip.{code-kept, byte-kept}
+use Rattle.kept.proofs.RoundTrip.{code-kept, byte-kept, narrow-kept, neighbour-kept}
 use Rattle.kept.proofs.Unique.{one-access, one-draw}
 
 pub demand-1 : Demand1
 demand-1 = (answered-in-order, refusal-leaves, each-number-reached, draws-reached, one-access, one-draw)
 
 pub demand-2 : Demand2
-demand-2 = (code-round-trip, byte-round-trip, code-kept, byte-kept, unused-stay)
+demand-2 = (code-round-trip, byte-round-trip, narrow-round-trip, code-kept, byte-kept, narrow-kept, neighbour-kept, unused-stay)
 
 pub demand-3 : Demand3
 demand-3 = (draw-fresh, marks-exact, answered-in-order)

@@ -13,20 +13,21 @@ use Rattle.address.specs.Triples.{legal}
 use Rattle.address.specs.declared.triple.Triple.{Triple}
 use Rattle.page.specs.Marks.{isMarked}
 use Rattle.command.specs.declared.Command.{Command}
-use Rattle.command.specs.declared.Command.the-variants.{Nop, Ind, Krf, Oct, NotListed}
+use Rattle.command.specs.declared.Command.the-variants.{Nop, Ind, Krf, Oct, Krl, NotListed}
 use Rattle.processor.specs.declared.state.Processor.{Processor}
 use Rattle.command.specs.Answers.{drawNumberOf}
 use Rattle.processor.specs.States.{Chip, chip, registerOf, cleared}
 use Rattle.processor.specs.Pointers.{pointerOf}
-use Rattle.address.specs.Places.{blockAt}
-use Rattle.processor.specs.Bytes.{stored, oct, codeStored, krf}
+use Rattle.address.specs.Narrow.{isOdd, attributesAt, nibbleInto}
+use Rattle.address.specs.Places.{blockAt, loaded}
+use Rattle.processor.specs.Bytes.{stored, oct, codeStored, krf, narrowStored, krl}
 use Rattle.processor.specs.Access.{isUnlisted, isAstray, effect, Outcome, indirect}
 use Rattle.processor.specs.Draws.{DrawOutcome, drawnPage}
 use Rattle.kept.specs.Demands.{MarksExact}
 use Rattle.kept.specs.Quiet.{isMarker}
-use Rattle.kept.specs.Rules.{storeRule, codeRule, commandRule, accessRule, marksRow}
+use Rattle.kept.specs.Rules.{storeRule, codeRule, narrowRule, commandRule, accessRule, marksRow}
 use Rattle.kept.specs.Runs.{write, read, turn, draw, lentOf, chipLent}
-use Rattle.kept.proofs.Marks.{store-marks-exact, indirect-marks-exact, phase-marks-exact, draw-marks-exact, unmarked, store-marks, krf-marks, oct-marks}
+use Rattle.kept.proofs.Marks.{store-marks-exact, indirect-marks-exact, phase-marks-exact, draw-marks-exact, unmarked, store-marks, krf-marks, krl-marks, oct-marks}
 use Rattle.kept.proofs.Walk.{Ends, write-known, read-known, turn-known, draw-known, effect-keeps, commandIn, afterWrite}
 
 module _ (r : ℕ) (l : r < 25) where
@@ -49,6 +50,17 @@ module _ (r : ℕ) (l : r < 25) where
       ∙ ap (λ (b : Bool). b || s1) (store-marks-exact (blockAt t 0) (registerOf p 1) k r l)
       ∙ or-assoc (marked k) s0 s1)
       ∙ or-assoc (marked k) (s0 || s1) s2
+
+  -- KRL's two
+  two : (t : Triple) (k : Chip) → marked (narrowStored t k) ≡ (marked k || narrowRule t k r)
+  unfolding narrowStored
+  two t k =
+      let p = k .processor in
+      let k1 = stored t (registerOf p 1) k in
+      let v = nibbleInto (isOdd t) (loaded (attributesAt t) (k .memory)) (registerOf p 3) in
+      store-marks-exact (attributesAt t) v k1 r l
+      ∙ ap (λ (b : Bool). b || storeRule (attributesAt t) v k1 r) (store-marks-exact t (registerOf p 1) k r l)
+      ∙ or-assoc (marked k) (storeRule t (registerOf p 1) k r) (storeRule (attributesAt t) v k1 r)
 
   at : (a b : List Bool) → a ≡ b → isMarked a r ≡ isMarked b r
   at a b e = ap (λ (q : List Bool). isMarked q r) e
@@ -85,6 +97,11 @@ module _ (r : ℕ) (l : r < 25) where
       let j = chip (cleared (k .processor)) (k .memory) in
       let v = registerOf (k .processor) 1 in
       pointed (legal t) k (oct false auxiliary increments k) (storeRule t v j r) (at _ _ (oct-marks auxiliary increments k) ∙ store-marks-exact t v j r l)
+  ruled (Krl true increments) k = unruled (Krl true increments) k refl
+  ruled (Krl false increments) k =
+      let t = pointerOf false (k .processor) in
+      let j = chip (cleared (k .processor)) (k .memory) in
+      pointed (legal t) k (krl false increments k) (narrowRule t j r) (at _ _ (krl-marks increments k) ∙ two t j)
   ruled NotListed k = unruled NotListed k refl
 
   -- the register access itself marks nothing

@@ -1,12 +1,13 @@
 -- The frame law. Two memories that agree on every place that row r's list holds in the first: all that r takes from memory is the same in
--- the second, and with it r's bytes for every ROM. (That the list is the same is `list-same` of crate reading.)
+-- the second, its row buffer in 80 columns, and with it r's bytes for every ROM. (That the list is the same is `list-same` of crate reading.)
 -- Assumes nothing.
 use Prim.Native.Nat.{ℕ, zero, suc, _<_}
-use mathlib.Core.Path.{_≡_, refl, ap}
+use mathlib.Core.Path.{_≡_, refl, sym, ap, _∙_}
 use mathlib.Core.Bool.{Bool, true, false, not, _&&_}
 use mathlib.Core.List.{List}
+use mathlib.Core.Logic.{⊎-elim}
 use native.Mathlib.Omega.{arith}
-use Rattle.basics.proofs.Choice.{or-left, or-right}
+use Rattle.basics.proofs.Choice.{bool-cases}
 use Rattle.basics.proofs.Below.{any-hit}
 use Rattle.basics.proofs.Parts.{table-same}
 use Rattle.address.specs.Slices.{slicePlaceOf}
@@ -14,7 +15,8 @@ use Rattle.address.specs.declared.slice.SlicePlace.{SlicePlace}
 use Rattle.address.specs.declared.slice.SlicePlace.the-variants.{At, NoByte}
 use Rattle.address.specs.Places.{byteAt}
 use Rattle.shown.specs.declared.Shown.{Shown}
-use Rattle.page.specs.Codes.{codeAt}
+use Rattle.shown.specs.Modes.{isEighty}
+use Rattle.page.specs.Codes.{codeAt, rowBuffer}
 use Rattle.page.specs.Halves.{isTall, isWide, goesOn, secondHalf, lowerHalf, rightHalf}
 use Rattle.sources.specs.Sources.{cellSource, characterOf, byteOr, keptSlice}
 use Rattle.page.specs.Inputs.{decoded, Slices, takenFrom, cellInput, rowInput}
@@ -22,9 +24,12 @@ use Rattle.sources.specs.declared.source.Source.{Source}
 use Rattle.sources.specs.declared.source.Source.the-variants.{Rom, Block}
 use Rattle.halves.proofs.Halves.{half-same}
 use Rattle.rows.specs.Rows.{painted}
-use Rattle.reading.specs.Lists.{rowHolds, isAt, sourceHolds, cellHolds, slicesHold, hasTall, onList}
+use Rattle.eighty.specs.Rows.{eightyLines}
+use Rattle.picture.specs.Rows.{rowOf}
+use Rattle.picture.proofs.Rows.{row-eighty, row-forty}
+use Rattle.reading.specs.Lists.{isAt, sourceHolds, cellHolds, slicesHold, hasTall}
 use Rattle.reading.specs.Agreeing.{Agree, AgreeOnList}
-use Rattle.reading.proofs.Stable.{eqb-self, Own, Up, code-same, own-above, up-above, its-own, its-up}
+use Rattle.reading.proofs.Stable.{eqb-self, Own, Sliced, Up, code-same, own-above, up-above, its-own, its-slices, its-up}
 use Rattle.kept.specs.Agreeing.{FrameLaw}
 
 module _ (shown : Shown) (m n : List ℕ) where
@@ -49,9 +54,6 @@ module _ (shown : Shown) (m n : List ℕ) where
   right-same : (r x : ℕ) → x < 40 → Own shown m n r → rightHalf shown m r x ≡ rightHalf shown n r x
   right-same r x l own = half-same isWide (codeAt shown m r) (codeAt shown n r) x (λ i h. code-same shown m n r i own (omega arith))
 
-  abbrev Sliced : ℕ → Type 0
-  Sliced r = Agree (λ p. slicesHold shown m p r) m n
-
   slice-hit : (r x p : ℕ) → x < 40 → cellHolds shown p (codeAt shown m r x) ≡ true → slicesHold shown m p r ≡ true
   unfolding slicesHold
   slice-hit r x p l h = any-hit (λ x. cellHolds shown p (codeAt shown m r x)) 40 x l h
@@ -66,7 +68,7 @@ module _ (shown : Shown) (m n : List ℕ) where
       at (At p) b = b p (eqb-self p)
       at NoByte b = refl
 
-  cell-same : (r x : ℕ) → Own shown m n r → Up shown m n r → Sliced r → x < 40 → cellInput shown m r x ≡ cellInput shown n r x
+  cell-same : (r x : ℕ) → Own shown m n r → Up shown m n r → Sliced shown m n r → x < 40 → cellInput shown m r x ≡ cellInput shown n r x
   unfolding cellInput cellHolds
   cell-same r x own up sl l =
       let code = codeAt shown m r x in
@@ -79,15 +81,20 @@ module _ (shown : Shown) (m n : List ℕ) where
 
 -- the frame law
 module _ (shown : Shown) (m n : List ℕ) (r : ℕ) (agree : AgreeOnList shown m n r) where
-  its-slices : Sliced shown m n r
-  unfolding onList
-  its-slices p h = agree p (or-right (rowHolds shown p r) _ (or-left _ _ h))
-
   -- all that it takes from memory is the same
-  pub input-same : rowInput shown m r ≡ rowInput shown n r
+  input-same : isEighty shown ≡ false → rowInput shown m r ≡ rowInput shown n r
   unfolding rowInput
-  input-same = table-same _ _ 40 (λ x l. cell-same shown m n r x (its-own shown m n r agree) (its-up shown m n r agree) its-slices l)
+  input-same forty =
+      table-same _ _ 40
+      (λ x l. cell-same shown m n r x (its-own shown m n r agree) (its-up shown m n r agree forty) (its-slices shown m n r agree forty) l)
+
+  buffer-same : rowBuffer shown m r ≡ rowBuffer shown n r
+  buffer-same = table-same _ _ 40 (λ x l. code-same shown m n r x (its-own shown m n r agree) l)
 
 -- and so are its bytes, for every ROM
 pub frame-law : FrameLaw
-frame-law shown m n r agree rom = ap (painted rom shown) (input-same shown m n r agree)
+frame-law shown m n r agree rom =
+    ⊎-elim
+    (λ e. row-eighty m rom shown r e ∙ ap (eightyLines rom shown) (buffer-same shown m n r agree) ∙ sym (row-eighty n rom shown r e))
+    (λ e. row-forty m rom shown r e ∙ ap (painted rom shown) (input-same shown m n r agree e) ∙ sym (row-forty n rom shown r e))
+    (bool-cases (isEighty shown))

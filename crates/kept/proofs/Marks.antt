@@ -11,22 +11,23 @@ use Rattle.basics.specs.Bits.{bits, isSet}
 use Rattle.basics.specs.Choice.{pick}
 use Rattle.basics.proofs.Parts.{table-at}
 use Rattle.address.specs.declared.triple.Triple.{Triple}
+use Rattle.shown.specs.Modes.{isEighty}
 use Rattle.page.specs.Marks.{isMarked, markedToo, allMarked}
 use Rattle.reading.specs.Lists.{onList}
 use Rattle.reading.specs.Marks.{storeMarks, flashIn, phaseMarks}
 use Rattle.processor.specs.declared.state.Processor.{Processor}
 use Rattle.processor.specs.States.{Chip, chip, registerOf, indirectWritten, withPhase, withRegister, cleared, shownOf}
 use Rattle.command.specs.declared.Command.{Command}
-use Rattle.command.specs.declared.Command.the-variants.{Nop, Ind, Krf, Oct, NotListed}
+use Rattle.command.specs.declared.Command.the-variants.{Nop, Ind, Krf, Oct, Krl, NotListed}
 use Rattle.command.specs.Commands.{commandOf}
 use Rattle.processor.specs.Pointers.{pointerOf}
 use Rattle.address.specs.Places.{placeAt, loaded}
-use Rattle.processor.specs.Bytes.{stored, oct, codeStored, krf}
+use Rattle.processor.specs.Bytes.{stored, oct, codeStored, krf, narrowStored, krl}
 use Rattle.processor.specs.Access.{written, readOut, phased}
 use Rattle.processor.specs.Draws.{drawnPage}
 use Rattle.kept.specs.Quiet.{isStore, isMarker}
 use Rattle.kept.specs.Rules.{isShown, storeRule, indirectRule, phaseRule}
-use Rattle.kept.proofs.Walk.{KeptBy, asked-keeps, effect-keeps, write-keeps, read-keeps}
+use Rattle.kept.proofs.Walk.{KeptBy, advance-keeps, asked-keeps, effect-keeps, write-keeps, read-keeps}
 
 too :
     (b : Bool) (f : ℕ → Bool) (marks : List Bool) (r : ℕ) → r < 25 → isMarked (pick b (markedToo f marks) marks) r ≡ (isMarked marks r || (b && f r))
@@ -52,7 +53,7 @@ store-marks-exact t v k r l =
 pub indirect-marks-exact :
     (p : Processor) (n r : ℕ) → r < 25 → isMarked (indirectWritten p n .marks) r ≡ (isMarked (p .marks) r || indirectRule n p)
 unfolding indirectWritten
-indirect-marks-exact p n r l = all (not (eqb (getD (p .indirect) n 0) (registerOf p 1)) && not (eqb n 2)) (p .marks) r l
+indirect-marks-exact p n r l = all (not (eqb (getD (p .indirect) n 0) (registerOf p 1)) && (not (eqb n 2) || isEighty (shownOf p))) (p .marks) r l
 
 turns :
     (same can : Bool) (f : ℕ → Bool) (n : ℕ) (k : Chip) (r : ℕ) → r < 25 →
@@ -81,6 +82,7 @@ store-marks (Ind r true) e = e
 store-marks (Ind r false) e = refl
 store-marks (Krf reads increments) e = e
 store-marks (Oct reads auxiliary increments) e = e
+store-marks (Krl reads increments) e = e
 store-marks NotListed e = e
 
 -- a command that marks nothing keeps the marks
@@ -93,12 +95,18 @@ unmarked l =
       ind = λ r n k e. absurd (false≢true (sym n));
     }
 
--- KRF marks by its three stores and OCT by its one, each by the lists just before it; the forms that read mark nothing
+-- KRF marks by its three stores, KRL by its two and OCT by its one, each by the lists just before it; the forms that read mark nothing
 pub krf-marks :
     (increments : Bool) (k : Chip) →
     krf false increments k .processor .marks ≡ codeStored (pointerOf false (k .processor)) (chip (cleared (k .processor)) (k .memory)) .processor .marks
 unfolding krf
 krf-marks increments k = asked-keeps isMarker _ (unmarked _) increments false (codeStored _ _) refl
+
+pub krl-marks :
+    (increments : Bool) (k : Chip) →
+    krl false increments k .processor .marks ≡ narrowStored (pointerOf false (k .processor)) (chip (cleared (k .processor)) (k .memory)) .processor .marks
+unfolding krl
+krl-marks increments k = advance-keeps isMarker _ (unmarked _) increments (narrowStored _ _) refl
 
 pub krf-read-marks : (increments : Bool) (k : Chip) → krf true increments k .processor .marks ≡ k .processor .marks
 krf-read-marks increments k = effect-keeps isMarker _ (unmarked _) (Krf true increments) refl k (λ s. absurd (false≢true s)) refl

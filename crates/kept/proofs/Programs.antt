@@ -11,6 +11,7 @@ use borrow.Author.Tests.{eq-eqb, ne-eqb}
 use Rattle.address.specs.Boards.{memoryBytes}
 use Rattle.command.specs.declared.Command.{Command}
 use Rattle.command.specs.Commands.{commandOf}
+use Rattle.processor.specs.declared.state.Processor.{Processor}
 use Rattle.processor.specs.States.{chip, registerOf, registerRead, withRegister, withRegisters}
 use Rattle.processor.specs.Access.{Outcome, isUnlisted, isAstray, effect}
 use Rattle.processor.specs.Sizes.{Sized}
@@ -150,3 +151,23 @@ puts-replies (p ∷ ps) named w whole =
     let v = p .value in
     replies-on (put n v) (puts ps) w (written-in w n v) _ _ (put-reply w whole n v (named .0)) (put-step w whole n v (named .0))
     (puts-replies ps (named .1) (written-in w n v) whole)
+
+-- registers read, one after the other, and what is replied where each holds its value
+abbrev pub gets : List Put → List Operation
+gets [] = []
+gets (p ∷ ps) = get (p .register) ∷ gets ps
+
+abbrev pub answers : List Put → List Reply
+answers [] = []
+answers (p ∷ ps) = reply 0 (p .value) ∷ answers ps
+
+abbrev pub Holds : List Put → Processor → Type 0
+Holds [] q = Unit {0}
+Holds (p ∷ ps) q = ((1 ≤ p .register) × (p .register < 8) × (registerOf q (p .register) ≡ p .value)) × Holds ps q
+
+pub gets-replies : (ps : List Put) (w : World) → length (w .memory) ≡ memoryBytes → Holds ps (w .processor) → replies (gets ps) w ≡ answers ps
+gets-replies [] w whole holds = refl
+gets-replies (p ∷ ps) w whole holds =
+    let n = p .register in
+    replies-on (get n) (gets ps) w w _ _ (get-reply w whole n (holds .0 .0) (holds .0 .1) ∙ ap (reply 0) (holds .0 .2)) (get-step w whole n (holds .0 .1))
+    (gets-replies ps w whole (holds .1))

@@ -13,7 +13,7 @@ use Rattle.basics.specs.Choice.{pick}
 use Rattle.basics.proofs.Choice.{and-left, and-right}
 use Rattle.address.specs.Boards.{memoryBytes}
 use Rattle.command.specs.declared.Command.{Command}
-use Rattle.command.specs.declared.Command.the-variants.{Nop, Ind, Krf, Oct, NotListed}
+use Rattle.command.specs.declared.Command.the-variants.{Nop, Ind, Krf, Oct, Krl, NotListed}
 use Rattle.command.specs.Answers.{numberOf}
 use Rattle.processor.specs.declared.state.Processor.{Processor}
 use Rattle.processor.specs.States.{Chip, chip}
@@ -56,6 +56,7 @@ isNop Nop = true
 isNop (Ind r reads) = false
 isNop (Krf reads increments) = false
 isNop (Oct reads auxiliary increments) = false
+isNop (Krl reads increments) = false
 isNop NotListed = false
 
 picked : (b : Bool) (c d : Command) → pick b c Nop ≡ d → isNop d ≡ false → (b ≡ true) × (c ≡ d)

@@ -9,7 +9,8 @@ use native.Mathlib.Omega.{arith}
 use lib.ListN.{length, replicate, length-replicate, length-set}
 use Rattle.address.specs.Boards.{memoryBytes}
 use Rattle.address.specs.Triples.{legalIn, onPage, legalY}
-use Rattle.shown.specs.Lengths.{romBytes, columnBytes, pictureBytes}
+use Rattle.shown.specs.Lengths.{romBytes, fortyBytes, pictureBytes}
+use Rattle.shown.specs.Modes.{isEighty}
 use Rattle.shown.specs.Refusals.{refused7, refused8}
 use Rattle.command.specs.declared.Command.the-variants.{Ind}
 use Rattle.command.specs.Commands.{commandOf}
@@ -34,7 +35,7 @@ long n = length-replicate n 0
 
 -- power-up
 abbrev pub picture : List ℕ
-picture = zeros (pictureBytes columnBytes)
+picture = zeros (pictureBytes fortyBytes)
 
 abbrev pub at-first : World
 at-first = first (zeros memoryBytes) (zeros romBytes) picture
@@ -71,16 +72,17 @@ gives-5 =
     at-once o 5 (tt, none-long romBytes (omega arith), inl tt) (number-first o at-first ∙ rw (long memoryBytes))
 
 gives-6 : Gives 6
+unfolding powerUp isEighty refused7
 gives-6 =
     let o = draw own own (other []) in
-    at-once o 6 (tt, tt, inl (none-long (pictureBytes columnBytes) (omega arith))) (number-first o at-first ∙ rw (long memoryBytes, long romBytes))
+    at-once o 6 (tt, tt, inl (none-long (pictureBytes fortyBytes) (omega arith))) (number-first o at-first ∙ rw (long memoryBytes, long romBytes))
 
 -- at power-up the origin is 0
 gives-8 : Gives 8
-unfolding powerUp refused7 refused8
+unfolding powerUp isEighty refused7 refused8
 gives-8 =
     at-once (draw own own own) 8 (tt, tt, inl tt)
-    (number-first (draw own own own) at-first ∙ rw (long memoryBytes, long romBytes, long (pictureBytes columnBytes)))
+    (number-first (draw own own own) at-first ∙ rw (long memoryBytes, long romBytes, long (pictureBytes fortyBytes)))
 
 gives-9 : Gives 9
 gives-9 = at-once (turn own 2) 9 tt (number-first (turn own 2) at-first ∙ rw (long memoryBytes))
@@ -105,19 +107,27 @@ gives-4 =
 abbrev pub setting : ℕ → ℕ → List Operation
 setting v code = put 1 v ∷ execute code ∷ []
 
+abbrev pub set-in : World → ℕ → ℕ → ℕ → World
+set-in w v code r = worldWith w (indirectWritten (withRegister (withRegister (w .processor) 1 v) 0 code) r) (w .memory) (w .picture)
+
+pub setting-in :
+    (w : World) → length (w .memory) ≡ memoryBytes → Sized (w .processor) → (v code r : ℕ) → commandOf code ≡ Ind r false →
+    run (setting v code) w ≡ set-in w v code r
+unfolding indirect
+setting-in w whole s v code r is =
+    ap (step (execute code)) (put-step w whole 1 v (omega arith))
+    ∙ execute-step (written-in w 1 v) whole (length-set (w .processor .registers) 1 v ∙ s .0, s .1, s .2) code (Ind r false) is refl refl refl
+
+-- the same from power-up
 abbrev pub set-up : ℕ → ℕ → ℕ → World
-set-up v code r = worldWith at-first (indirectWritten (withRegister (withRegister powerUp 1 v) 0 code) r) (zeros memoryBytes) picture
+set-up v code r = set-in at-first v code r
 
 pub setting-up : (v code r : ℕ) → commandOf code ≡ Ind r false → run (setting v code) at-first ≡ set-up v code r
-unfolding indirect
-setting-up v code r is =
-    ap (step (execute code)) (put-step at-first (long memoryBytes) 1 v (omega arith))
-    ∙ execute-step (written-in at-first 1 v) (long memoryBytes) (length-set (powerUp .registers) 1 v ∙ sized .0, sized .1, sized .2) code (Ind r false) is
-    refl refl refl
+setting-up = setting-in at-first (long memoryBytes) sized
 
 -- 128 in TGS
 gives-7 : Gives 7
-unfolding powerUp commandOf indirectWritten refused7
+unfolding powerUp commandOf indirectWritten isEighty refused7
 gives-7 =
     record {
       memory = zeros memoryBytes;
@@ -128,7 +138,7 @@ gives-7 =
       fair = (tt, (tt, ((tt, tt, inl tt), tt)));
       happens =
           subst (λ (w : World). done (draw own own own) w .number ≡ 7) (sym (setting-up 128 0x81 1 refl))
-          (number-first (draw own own own) (set-up 128 0x81 1) ∙ rw (long memoryBytes, long romBytes, long (pictureBytes columnBytes)));
+          (number-first (draw own own own) (set-up 128 0x81 1) ∙ rw (long memoryBytes, long romBytes));
     }
 
 pub each-number-reached : EachNumberReached

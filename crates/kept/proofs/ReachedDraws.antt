@@ -1,10 +1,11 @@
--- Demand 1: a draw of 25 rows, and one of some and not all, is accepted after a run of operations from power-up.
+-- Demand 1: a draw of 25 rows, one of some and not all, and one of 80 columns after one of 40 is accepted after a run of operations from
+-- power-up.
 -- Assumes nothing.
 use Prim.Native.Nat.{ℕ, _<_}
 use mathlib.Core.Path.{_≡_, refl, sym, ap, subst, _∙_}
-use mathlib.Core.Bool.{Bool, true, false, _||_}
+use mathlib.Core.Bool.{Bool, true, false, _||_, false≢true}
 use mathlib.Core.List.{List, [], _∷_}
-use mathlib.Core.Logic.{inl}
+use mathlib.Core.Logic.{_≢_, inl, inr}
 use native.Mathlib.Omega.{arith}
 use lib.ListN.{length, length-set}
 use Rattle.basics.specs.Below.{countBelow, anyBelow}
@@ -16,7 +17,8 @@ use Rattle.address.specs.Places.{placeOf}
 use Rattle.address.specs.Rows.{rowY}
 use Rattle.address.specs.Triples.{legalIn, onPage, legalY}
 use Rattle.shown.specs.declared.Shown.{Shown}
-use Rattle.shown.specs.Lengths.{romBytes, columnBytes, pictureBytes}
+use Rattle.shown.specs.Lengths.{romBytes, fortyBytes, eightyBytes, pictureBytes}
+use Rattle.shown.specs.Modes.{isEighty}
 use Rattle.shown.specs.Refusals.{refused7, refused8, canDraw}
 use Rattle.page.specs.Codes.{codeOf}
 use Rattle.page.specs.Marks.{isMarked, markedRows, noneMarked}
@@ -31,13 +33,14 @@ use Rattle.processor.specs.Draws.{DrawOutcome, drawnPage}
 use Rattle.processor.specs.Pointers.{pointerOf, incrementedIf}
 use Rattle.cell.specs.Cells.{cellOf, bichromeOf, setOf}
 use Rattle.page.specs.Halves.{isTall}
-use Rattle.kept.specs.Demands.{Redraws, DrawsReached, put, execute}
+use Rattle.kept.specs.Demands.{Redraws, EightyReached, DrawsReached, put, execute}
 use Rattle.kept.specs.Orders.{firstOf, order}
-use Rattle.kept.specs.Runs.{own, Operation, draw, World, step, run, Reply, reply, replyTo}
+use Rattle.kept.specs.Premises.{EveryRowMarked}
+use Rattle.kept.specs.Runs.{Lent, own, other, Operation, draw, World, step, run, done, pictureLent, Reply, reply, replyTo}
 use Rattle.kept.proofs.Numbers.{answered-in-order}
 use Rattle.kept.proofs.Programs.{execute-step}
 use Rattle.kept.proofs.Marks.{store-marks-exact}
-use Rattle.kept.proofs.Reached.{zeros, long, picture, at-first, setting, set-up, setting-up}
+use Rattle.kept.proofs.Reached.{zeros, long, picture, at-first, setting, set-in, setting-in, set-up, setting-up}
 use Rattle.kept.proofs.Refusals.{worldWith}
 use Rattle.kept.proofs.Walk.{draw-known}
 
@@ -51,7 +54,7 @@ unfolding zeros onList rowHolds codeHolds codePlace anyBelow placeOf rowY
 listed = refl
 
 unlisted : onList plainly (zeros memoryBytes) 0 1 ≡ false
-unfolding zeros onList rowHolds codeHolds codePlace anyBelow slicesHold cellHolds hasTall aboveHolds codeOf placeOf rowY cellOf bichromeOf setOf isTall
+unfolding zeros onList rowHolds codeHolds codePlace anyBelow slicesHold cellHolds hasTall aboveHolds codeOf placeOf rowY cellOf bichromeOf setOf isTall isEighty
 unlisted = refl
 
 ror-listed : commandOf 0x87 ≡ Ind 7 false
@@ -63,8 +66,8 @@ abbrev shown-all : World
 shown-all = set-up 8 0x87 7
 
 all-first : firstOf (order (draw own own own) shown-all) ≡ 0
-unfolding powerUp indirectWritten refused7 refused8
-all-first = rw (long memoryBytes, long romBytes, long (pictureBytes columnBytes))
+unfolding powerUp indirectWritten isEighty refused7 refused8
+all-first = rw (long memoryBytes, long romBytes, long (pictureBytes fortyBytes))
 
 all-rows : markedRows (shown-all .processor .marks) 25 ≡ 25
 unfolding powerUp indirectWritten countBelow joined
@@ -86,12 +89,13 @@ accepted-draw w e =
     (λ a f n. absurd (n (sym f ∙ e)))
     (λ f can. refl)
 
-draw-said : (w : World) (n : ℕ) → firstOf (order (draw own own own) w) ≡ 0 → markedRows (w .processor .marks) 25 ≡ n → replyTo (draw own own own) w ≡ reply 0 n
-draw-said w n e m = answered-in-order (draw own own own) w ∙ rw e (ap (reply 0) m)
+draw-said :
+    (z : Lent) (w : World) (n : ℕ) → firstOf (order (draw own own z) w) ≡ 0 → markedRows (w .processor .marks) 25 ≡ n → replyTo (draw own own z) w ≡ reply 0 n
+draw-said z w n e m = answered-in-order (draw own own z) w ∙ rw e (ap (reply 0) m)
 
 draws-all : Redraws (λ n. n ≡ 25)
 draws-all =
-    let said = subst (λ (w : World). replyTo (draw own own own) w ≡ reply 0 25) (sym (setting-up 8 0x87 7 ror-listed)) (draw-said shown-all 25 all-first all-rows) in
+    let said = subst (λ (w : World). replyTo (draw own own own) w ≡ reply 0 25) (sym (setting-up 8 0x87 7 ror-listed)) (draw-said own shown-all 25 all-first all-rows) in
     record {
       memory = zeros memoryBytes;
       rom = zeros romBytes;
@@ -127,21 +131,22 @@ abbrev marked : ℕ → Bool
 marked r = isMarked (after-store .processor .marks) r
 
 marked-by-list : (r : ℕ) → r < 25 → marked r ≡ onList plainly (zeros memoryBytes) 0 r
-unfolding zeros powerUp indirectWritten oct incrementedIf pointerOf placeOf canDraw refused7 refused8
+unfolding zeros powerUp indirectWritten oct incrementedIf pointerOf placeOf canDraw isEighty refused7 refused8
 marked-by-list r l =
     store-marks-exact (pointerOf false (after-draw .processor)) 8 (chip (cleared (withRegister (after-draw .processor) 0 0x30)) (zeros memoryBytes)) r l
     ∙ ap (λ (b : Bool). b || onList plainly (zeros memoryBytes) 0 r) (table-at (λ s. false) 25 r false l)
 
 -- the draw after it
-after-long : length (after-store .picture) ≡ pictureBytes columnBytes
-after-long = redrawn-long (shown-all .processor .marks) picture (zeros memoryBytes) (zeros romBytes) (shownOf (shown-all .processor)) (long (pictureBytes columnBytes))
+after-long : length (after-draw .picture) ≡ pictureBytes fortyBytes
+unfolding isEighty indirectWritten powerUp
+after-long = redrawn-long (shown-all .processor .marks) picture (zeros memoryBytes) (zeros romBytes) (shownOf (shown-all .processor)) (long (pictureBytes fortyBytes))
 
 stored-memory : length (after-store .memory) ≡ memoryBytes
 unfolding oct stored
 stored-memory = length-set (zeros memoryBytes) _ _ ∙ long memoryBytes
 
 some-first : firstOf (order (draw own own own) after-store) ≡ 0
-unfolding powerUp indirectWritten oct incrementedIf stored refused7 refused8
+unfolding powerUp indirectWritten oct incrementedIf stored isEighty refused7 refused8
 some-first = rw (stored-memory, long romBytes, after-long)
 
 -- the whole run
@@ -155,7 +160,7 @@ before-some-run =
 draws-some : Redraws (λ n. (0 < n) × (n < 25))
 draws-some =
     let n = markedRows (after-store .processor .marks) 25 in
-    let said = subst (λ (w : World). replyTo (draw own own own) w ≡ reply 0 n) (sym before-some-run) (draw-said after-store n some-first refl) in
+    let said = subst (λ (w : World). replyTo (draw own own own) w ≡ reply 0 n) (sym before-some-run) (draw-said own after-store n some-first refl) in
     let rows = ap (λ (a : Reply). a .value) said in
     record {
       memory = zeros memoryBytes;
@@ -174,5 +179,79 @@ draws-some =
       );
     }
 
+-- C0 in TGS, after the first draw: 80 columns, and every row marked again
+abbrev turned : World
+turned = set-in after-draw 0xC0 0x81 1
+
+tgs-listed : commandOf 0x81 ≡ Ind 1 false
+unfolding commandOf
+tgs-listed = refl
+
+turning : run (setting 0xC0 0x81) after-draw ≡ turned
+unfolding powerUp indirectWritten
+turning = setting-in after-draw (long memoryBytes) (refl, refl, length-table (λ r. false) 25) 0xC0 0x81 1 tgs-listed
+
+turned-eighty : isEighty (shownOf (turned .processor)) ≡ true
+unfolding powerUp indirectWritten isEighty
+turned-eighty = refl
+
+turned-marked : EveryRowMarked turned
+unfolding powerUp indirectWritten
+turned-marked r l = table-at (λ s. true) 25 r false l
+
+turned-rows : markedRows (turned .processor .marks) 25 ≡ 25
+unfolding powerUp indirectWritten countBelow joined
+turned-rows = refl
+
+-- another picture is lent, of 60,000 bytes
+abbrev longer : Lent
+longer = other (zeros (pictureBytes eightyBytes))
+
+turned-first : firstOf (order (draw own own longer) turned) ≡ 0
+unfolding powerUp indirectWritten isEighty refused7 refused8
+turned-first = rw (long memoryBytes, long romBytes, long (pictureBytes eightyBytes))
+
+abbrev isOther : Lent → Bool
+isOther own = false
+isOther (other b) = true
+
+abbrev before-turned : List Operation
+before-turned = put 1 8 ∷ execute 0x87 ∷ draw own own own ∷ put 1 0xC0 ∷ execute 0x81 ∷ []
+
+before-turned-run : run before-turned at-first ≡ turned
+before-turned-run =
+    ap (run (draw own own own ∷ setting 0xC0 0x81)) (setting-up 8 0x87 7 ror-listed) ∙ ap (run (setting 0xC0 0x81)) drawing-all ∙ turning
+
+abbrev Wide : World → Type 0
+Wide w =
+    let o = draw own own longer in
+    (length (w .picture) ≡ pictureBytes fortyBytes) × (pictureLent o ≢ own) × (isEighty (shownOf (w .processor)) ≡ true) × (done o w .number ≡ 0)
+    × (done o w .value ≡ 25)
+
+turned-wide : Wide turned
+turned-wide =
+    let said = draw-said longer turned 25 turned-first turned-rows in (
+      after-long,
+      λ e. false≢true (sym (ap isOther e)),
+      turned-eighty,
+      ap (λ (a : Reply). a .number) said,
+      ap (λ (a : Reply). a .value) said,
+    )
+
+draws-eighty : EightyReached
+draws-eighty =
+    record {
+      memory = zeros memoryBytes;
+      rom = zeros romBytes;
+      picture = picture;
+      before = before-turned;
+      last = draw own own longer;
+      fair = (
+        tt,
+        (tt, ((tt, tt, inl tt), (tt, (tt, ((tt, tt, inr (subst EveryRowMarked (sym before-turned-run) turned-marked)), tt))))),
+      );
+      happens = subst Wide (sym before-turned-run) turned-wide;
+    }
+
 pub draws-reached : DrawsReached
-draws-reached = (draws-all, draws-some)
+draws-reached = (draws-all, draws-some, draws-eighty)

@@ -1,9 +1,9 @@
--- Demand 2's round trip: what an accepted KRF or OCT stores, a later one reads at a pointer with the same X, Y and Z, whatever the state has
+-- Demand 2's round trip: what an accepted KRF, OCT or KRL stores, a later one reads at a pointer with the same X, Y and Z, whatever the state has
 -- become, where nothing is stored between them.
 -- Assumes nothing.
 use Prim.Native.Nat.{ℕ, zero, suc, _<_, _≤_}
 use mathlib.Core.Path.{_≡_, refl, sym, ap, _∙_}
-use mathlib.Core.Bool.{Bool, true, false}
+use mathlib.Core.Bool.{Bool, true, false, _&&_}
 use mathlib.Core.List.{List}
 use native.Mathlib.Omega.{arith}
 use lib.Dec.{eqb}
@@ -11,27 +11,28 @@ use lib.ListN.{length, getD, set, length-set}
 use lib.Seq.{getD-set-same, getD-set-other}
 use borrow.Author.Tests.{not-false}
 use Rattle.basics.proofs.Choice.{pick-either}
-use Rattle.basics.specs.Bits.{bits}
+use Rattle.basics.specs.Bits.{bits, isSet}
 use Rattle.address.specs.Triples.{legal}
 use Rattle.address.specs.declared.triple.Triple.{Triple}
 use Rattle.processor.specs.declared.state.Processor.{Processor}
 use Rattle.processor.specs.States.{chip, registerOf, cleared}
-use Rattle.processor.specs.Pointers.{pointerOf, nextX, incremented, incrementedIf}
+use Rattle.processor.specs.Pointers.{pointerOf, nextX, incremented, incrementedIf, nextPosition, advanced, advancedIf}
+use Rattle.address.specs.Narrow.{isOdd, neighbourAt, attributesAt, nibbleFor, bothHalves}
 use Rattle.address.specs.Places.{blockAt, loaded}
-use Rattle.processor.specs.Bytes.{stored, oct, codeRead, codeStored, krf}
+use Rattle.processor.specs.Bytes.{stored, oct, codeRead, codeStored, krf, narrowRead, narrowStored, krl}
 use Rattle.address.specs.Boards.{memoryBytes}
 use Rattle.command.specs.declared.Command.{Command}
-use Rattle.command.specs.declared.Command.the-variants.{Krf, Oct}
+use Rattle.command.specs.declared.Command.the-variants.{Krf, Oct, Krl}
 use Rattle.processor.specs.Access.{effect}
 use Rattle.processor.specs.Sizes.{Sized}
-use Rattle.kept.specs.Demands.{CodeKept, ByteKept}
+use Rattle.kept.specs.Demands.{CodeKept, ByteKept, NarrowKept, NeighbourKept}
 use Rattle.kept.specs.Quiet.{commandRun, Quiet}
 use Rattle.kept.specs.Runs as runs
 use Rattle.kept.specs.Runs.{Lent, own, Operation, write, read, turn, draw, World, step, run, done, lentOf, memoryLent, memoryKept, registered}
 use Rattle.kept.proofs.Quiet.{quiet-run}
 use Rattle.kept.proofs.Ran.{isNop, command-ran}
 use Rattle.kept.proofs.Sizes.{step-sized, run-sized, power-up-sized}
-use Rattle.kept.proofs.Stores.{stored-here, code-c, code-b, code-a}
+use Rattle.kept.proofs.Stores.{stored-here, code-c, code-b, code-a, narrow-c, narrow-a, narrow-beside, narrow-nibble}
 
 -- an increment leaves R0 to R3
 increment-keeps : (auxiliary : Bool) (p : Processor) (i : ℕ) → i < 4 → registerOf (incremented auxiliary p) i ≡ registerOf p i
@@ -47,6 +48,13 @@ asked-keeps : (asked auxiliary : Bool) (p : Processor) (i : ℕ) → i < 4 → r
 unfolding incrementedIf
 asked-keeps true auxiliary p i l = increment-keeps auxiliary p i l
 asked-keeps false auxiliary p i l = refl
+
+advance-keeps : (asked : Bool) (p : Processor) (i : ℕ) → i < 4 → registerOf (advancedIf asked p) i ≡ registerOf p i
+unfolding advancedIf advanced
+advance-keeps true p i l =
+    let e = getD-set-other (p .registers) 7 i (nextPosition (registerOf p 7)) 0 (λ q. omega arith) in
+    pick-either (λ (q : Processor). registerOf q i ≡ registerOf p i) (isSet 7 (registerOf p 7) && eqb (bits 0 6 (registerOf p 7)) 39) _ _ e e
+advance-keeps false p i l = refl
 
 -- three registers written one after the other
 module _ (l : List ℕ) (c b a : ℕ) (eight : length l ≡ 8) where
@@ -127,6 +135,33 @@ module _
       ∙ ap (λ (t : Triple). loaded t (stored (pointerOf x p) (registerOf p 1) (chip (cleared p) m) .memory)) same
       ∙ stored-here (pointerOf x p) (registerOf p 1) (chip (cleared p) m) g l
 
+-- a 12-bit code by KRL
+module _
+    (p q : Processor) (m : List ℕ) (w r : Bool) (g : legal (pointerOf false p) ≡ true) (l : length m ≡ memoryBytes)
+    (same : pointerOf false q ≡ pointerOf false p) (eight : length (q .registers) ≡ 8) where
+  abbrev narrowLeft : List ℕ
+  narrowLeft = narrowStored (pointerOf false p) (chip (cleared p) m) .memory
+
+  abbrev narrowRound : Processor
+  narrowRound = krl true r (chip q (krl false w (chip p m) .memory)) .processor
+
+  round-character : registerOf narrowRound 1 ≡ registerOf p 1
+  unfolding krl narrowRead
+  round-character =
+      advance-keeps r _ 1 (omega arith)
+      ∙ getD-set-other (set (q .registers) 1 _) 3 1 _ 0 (λ e. omega arith)
+      ∙ getD-set-same (q .registers) 1 _ 0 (rw eight (omega arith))
+      ∙ ap (λ (t : Triple). loaded t narrowLeft) same
+      ∙ narrow-c (pointerOf false p) (chip (cleared p) m) g l
+
+  round-nibble : registerOf narrowRound 3 ≡ bothHalves (nibbleFor (isOdd (pointerOf false p)) (registerOf p 3))
+  unfolding krl narrowRead
+  round-nibble =
+      advance-keeps r _ 3 (omega arith)
+      ∙ getD-set-same (set (q .registers) 1 _) 3 _ 0 (rw (length-set (q .registers) 1 _, eight) (omega arith))
+      ∙ ap (λ (t : Triple). bothHalves (nibbleFor (isOdd t) (loaded (attributesAt t) narrowLeft))) same
+      ∙ ap bothHalves (narrow-a (pointerOf false p) (chip (cleared p) m) g l)
+
 -- the register access keeps the number of registers
 registered-eight : (o : Operation) (w : World) → Sized (w .processor) → length (registered o w .registers) ≡ 8
 registered-eight (write x address v) w s = length-set (w .processor .registers) (bits 0 3 address) v ∙ s .0
@@ -185,6 +220,21 @@ module _ (w : World) (s : Sized (w .processor)) (o : Operation) (between : List 
       ∙ round-byte x y (registered o w) (registered q u) (w .memory) i j (not-false _ (command-ran o w (Oct false x i) refl ec .3))
       (whole-then (Oct false x i) (Oct true y j) refl refl oo oq ec ed quiet) same eight-then
 
+  pub narrow-kept-in :
+      (i j : Bool) → memoryLent o ≡ own → commandRun o w ≡ Krl false i → Quiet between (step o w) →
+      memoryLent q ≡ own → commandRun q u ≡ Krl true j → pointerOf false (registered q u) ≡ pointerOf false (registered o w) →
+      (registerOf (step q u .processor) 1 ≡ registerOf (registered o w) 1)
+      × (registerOf (step q u .processor) 3 ≡ bothHalves (nibbleFor (isOdd (pointerOf false (registered o w))) (registerOf (registered o w) 3)))
+  narrow-kept-in i j oo ec quiet oq ed same =
+      let then = then-read (Krl false i) (Krl true j) refl refl oo oq ec ed quiet in
+      let ok = not-false _ (command-ran o w (Krl false i) refl ec .3) in
+      let whole = whole-then (Krl false i) (Krl true j) refl refl oo oq ec ed quiet in (
+        ap (λ (p : Processor). registerOf p 1) then
+            ∙ round-character (registered o w) (registered q u) (w .memory) i j ok whole same eight-then,
+        ap (λ (p : Processor). registerOf p 3) then
+            ∙ round-nibble (registered o w) (registered q u) (w .memory) i j ok whole same eight-then,
+      )
+
 pub code-kept : CodeKept
 code-kept m rom picture before between o q i j =
     let w = runs.first m rom picture in code-kept-in (run before w) (run-sized before w power-up-sized) o between q i j
@@ -192,3 +242,25 @@ code-kept m rom picture before between o q i j =
 pub byte-kept : ByteKept
 byte-kept m rom picture before between o q x y i j =
     let w = runs.first m rom picture in byte-kept-in (run before w) (run-sized before w power-up-sized) o between q x y i j
+
+pub narrow-kept : NarrowKept
+narrow-kept m rom picture before between o q i j =
+    let w = runs.first m rom picture in narrow-kept-in (run before w) (run-sized before w power-up-sized) o between q i j
+
+-- what KRL leaves of the neighbour
+pub neighbour-kept : NeighbourKept
+unfolding krl
+neighbour-kept o w i oo ec =
+    let ran = command-ran o w (Krl false i) refl ec in
+    let p = registered o w in
+    let t = pointerOf false p in
+    let m = lentOf (memoryLent o) (w .memory) in
+    let k = chip (cleared p) m in
+    let ok = not-false (legal t) (ran .3) in
+    let left = kept-own o w oo ∙ ran .1 in
+    let before = lent-own (memoryLent o) (w .memory) oo in (
+      ap (loaded (neighbourAt t)) left ∙ narrow-beside t k ok ∙ ap (loaded (neighbourAt t)) before,
+      ap (λ (n : List ℕ). nibbleFor (isOdd (neighbourAt t)) (loaded (attributesAt t) n)) left
+          ∙ narrow-nibble t k ok (ran .2)
+          ∙ ap (λ (n : List ℕ). nibbleFor (isOdd (neighbourAt t)) (loaded (attributesAt t) n)) before,
+    )

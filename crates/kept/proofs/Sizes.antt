@@ -2,18 +2,19 @@
 -- Assumes nothing.
 use Prim.Native.Nat.{ℕ}
 use mathlib.Core.Path.{_≡_, refl, _∙_}
-use mathlib.Core.Bool.{Bool, true, false, not, _&&_}
+use mathlib.Core.Bool.{Bool, true, false, not, _&&_, _||_}
 use mathlib.Core.List.{List}
 use lib.Dec.{eqb}
 use lib.ListN.{length, getD, length-set}
 use Rattle.basics.proofs.Choice.{pick-either}
 use Rattle.basics.proofs.Parts.{length-table}
 use Rattle.address.specs.declared.triple.Triple.{Triple}
+use Rattle.shown.specs.Modes.{isEighty}
 use Rattle.shown.specs.Refusals.{canDraw}
 use Rattle.page.specs.Marks.{allMarked, markedToo}
 use Rattle.reading.specs.Marks.{storeMarks, phaseMarks}
 use Rattle.processor.specs.declared.state.Processor.{Processor}
-use Rattle.processor.specs.States.{Chip, powerUp, registerOf, indirectWritten}
+use Rattle.processor.specs.States.{Chip, powerUp, registerOf, shownOf, indirectWritten}
 use Rattle.processor.specs.Bytes.{stored}
 use Rattle.processor.specs.Access.{Outcome, written, readOut, phased, turned}
 use Rattle.processor.specs.Draws.{DrawOutcome, drawnPage, drawn}
@@ -42,7 +43,7 @@ unfolding indirectWritten
 indirect-sized r p s = (
   s .0,
   length-set (p .indirect) r _ ∙ s .1,
-  pick-either Long (not (eqb (getD (p .indirect) r 0) (registerOf p 1)) && not (eqb r 2)) allMarked (p .marks) (length-table (λ r. true) 25) (s .2),
+  pick-either Long (not (eqb (getD (p .indirect) r 0) (registerOf p 1)) && (not (eqb r 2) || isEighty (shownOf p))) allMarked (p .marks) (length-table (λ r. true) 25) (s .2),
 )
 
 sized : KeptBy noneBarred SizedChip

@@ -12,19 +12,24 @@ use lib.Seq.{set-getD}
 use borrow.Author.Tests.{eqb-true}
 use Rattle.basics.specs.Choice.{pick}
 use Rattle.basics.proofs.Choice.{bool-cases, or-none, or-neither}
+use Rattle.basics.specs.Below.{anyBelow}
 use Rattle.basics.proofs.Below.{any-same}
 use Rattle.basics.proofs.Parts.{table-at}
 use Rattle.address.specs.Places.{byteAt}
 use Rattle.shown.specs.declared.Shown.{Shown}
+use Rattle.shown.specs.Modes.{isEighty}
 use Rattle.shown.specs.Refusals.{canDraw}
+use Rattle.narrow.specs.Codes.{pairFlashes}
+use Rattle.page.specs.Codes.{codeAt}
 use Rattle.page.specs.Inputs.{CellInput, cellInput, rowInput, flashes, noInput}
 use Rattle.page.specs.Marks.{isMarked, markedToo}
-use Rattle.rows.specs.Rows.{rowOf}
+use Rattle.picture.specs.Rows.{rowOf}
 use Rattle.reading.specs.Lists.{onList}
 use Rattle.reading.specs.Marks.{storeMarks, flashIn, phaseMarks}
 use Rattle.reading.proofs.Stable.{agree-off}
 use Rattle.rows.proofs.Phases.{anyFlashes}
-use Rattle.rows.proofs.Registers.{row-steady}
+use Rattle.eighty.proofs.Registers.{anyPairFlashes}
+use Rattle.picture.proofs.Registers.{row-steady}
 use Rattle.kept.proofs.Frame.{frame-law}
 
 -- a row that was not marked too was not marked before
@@ -73,14 +78,26 @@ module _ (shown : Shown) (m : List ℕ) (marks : List Bool) (r : ℕ) (l : r < 2
   unfolding phaseMarks
   phase-before e = chosen-before (canDraw shown) (flashIn shown m) marks r l e
 
-  still : flashIn shown m r ≡ false → anyFlashes (rowInput shown m r) ≡ false
+  abbrev flashesBy : Bool → Bool
+  flashesBy eighty = anyBelow (λ x. pick eighty (pairFlashes (codeAt shown m r x)) (flashes (codeAt shown m r x))) 40
+
+  -- no cell flashes, in each mode
+  still-eighty : flashIn shown m r ≡ false → isEighty shown ≡ true → anyPairFlashes shown m r ≡ false
+  unfolding flashIn
+  still-eighty e eighty = sym (ap flashesBy eighty) ∙ e
+
+  still-forty : flashIn shown m r ≡ false → isEighty shown ≡ false → anyFlashes (rowInput shown m r) ≡ false
   unfolding flashIn rowInput cellInput
-  still e = any-same _ _ 40 (λ x h. ap (λ (c : CellInput). flashes (c .code)) (table-at (cellInput shown m r) 40 x noInput h)) ∙ e
+  still-forty e forty =
+      any-same _ _ 40 (λ x h. ap (λ (c : CellInput). flashes (c .code)) (table-at (cellInput shown m r) 40 x noInput h))
+      ∙ sym (ap flashesBy forty)
+      ∙ e
 
   -- b is what is shown in another phase
   pub phase-keeps :
-      (b : Shown) → shown .pat ≡ b .pat → shown .dor ≡ b .dor → shown .ror ≡ b .ror →
+      (b : Shown) → shown .tgs ≡ b .tgs → shown .mat ≡ b .mat → shown .pat ≡ b .pat → shown .dor ≡ b .dor → shown .ror ≡ b .ror →
       canDraw shown ≡ true → isMarked (phaseMarks shown m marks) r ≡ false → (rom : List ℕ) → rowOf m rom shown r ≡ rowOf m rom b r
   unfolding phaseMarks
-  phase-keeps b pat dor ror can e rom =
-      row-steady shown b pat dor ror m rom r (still (not-passed (flashIn shown m) marks r l (rw can at e)))
+  phase-keeps b tgs mat pat dor ror can e rom =
+      let none = not-passed (flashIn shown m) marks r l (rw can at e) in
+      row-steady shown b tgs pat dor ror m rom r mat (still-eighty none) (still-forty none)

@@ -1,8 +1,8 @@
 -- What is stored at a legal place is loaded there; a store leaves the byte at every other legal place; and three code bytes that are
--- stored are the three that are read.
+-- stored are the three that are read. KRL's two bytes, and what they leave of the neighbour.
 -- Assumes nothing.
 use Prim.Native.Nat.{ℕ, _<_}
-use mathlib.Core.Path.{_≡_, ap, _∙_}
+use mathlib.Core.Path.{_≡_, sym, ap, _∙_}
 use mathlib.Core.Bool.{true}
 use mathlib.Core.Logic.{_≢_}
 use native.Mathlib.Omega.{arith}
@@ -11,9 +11,11 @@ use lib.Seq.{getD-set-same, getD-set-other}
 use Rattle.address.specs.Triples.{legal}
 use Rattle.address.specs.declared.triple.Triple.{Triple}
 use Rattle.address.proofs.Places.{legal-place, legal-injective, blocks-differ, legal-blocks}
+use Rattle.address.proofs.Positions.{neighbour-odd, neighbour-apart, attributes-apart, attributes-beside, legal-neighbour, legal-attributes, nibble-put, nibble-stays}
 use Rattle.processor.specs.States.{Chip, registerOf}
+use Rattle.address.specs.Narrow.{isOdd, neighbourAt, attributesAt, nibbleFor, nibbleInto}
 use Rattle.address.specs.Places.{placeAt, blockAt, loaded}
-use Rattle.processor.specs.Bytes.{stored, codeStored}
+use Rattle.processor.specs.Bytes.{stored, codeStored, narrowStored}
 use Rattle.address.specs.Boards.{boardDistricts, memoryBytes}
 
 -- a store keeps the memory's length
@@ -72,3 +74,46 @@ module _ (t : Triple) (k : Chip) (g : legal t ≡ true) (l : length (k .memory) 
   pub code-a : loaded (blockAt t 2) (codeStored t k .memory) ≡ registerOf (k .processor) 3
   unfolding codeStored
   code-a = stored-here (blockAt t 2) (registerOf (k .processor) 3) two (legal-blocks boardDistricts t 2 g) long-two
+
+-- KRL's two bytes, and the neighbour's
+module _ (t : Triple) (k : Chip) (g : legal t ≡ true) where
+  abbrev c : ℕ
+  c = registerOf (k .processor) 1
+
+  abbrev a : ℕ
+  a = nibbleInto (isOdd t) (loaded (attributesAt t) (k .memory)) (registerOf (k .processor) 3)
+
+  here : legal (attributesAt t) ≡ true
+  here = legal-attributes boardDistricts t g
+
+  beside : legal (neighbourAt t) ≡ true
+  beside = legal-neighbour boardDistricts t g
+
+  block : {u v : Triple} → u ≡ v → u .z ≡ v .z
+  block e = ap (λ (w : Triple). w .z) e
+
+  -- the neighbour's C
+  pub narrow-beside : loaded (neighbourAt t) (narrowStored t k .memory) ≡ loaded (neighbourAt t) (k .memory)
+  unfolding narrowStored
+  narrow-beside =
+      stored-elsewhere (attributesAt t) (neighbourAt t) a (stored t c k) here beside (λ e. attributes-beside t (sym (block e)))
+      ∙ stored-elsewhere t (neighbourAt t) c k g beside (λ e. neighbour-apart t (block e))
+
+  module _ (l : length (k .memory) ≡ memoryBytes) where
+    pub narrow-c : loaded t (narrowStored t k .memory) ≡ c
+    unfolding narrowStored
+    narrow-c = stored-elsewhere (attributesAt t) t a (stored t c k) here g (λ e. attributes-apart t (sym (block e))) ∙ stored-here t c k g l
+
+    there : loaded (attributesAt t) (narrowStored t k .memory) ≡ a
+    unfolding narrowStored
+    there = stored-here (attributesAt t) a (stored t c k) here (stored-long t c k ∙ l)
+
+    pub narrow-a : nibbleFor (isOdd t) (loaded (attributesAt t) (narrowStored t k .memory)) ≡ nibbleFor (isOdd t) (registerOf (k .processor) 3)
+    narrow-a = ap (nibbleFor (isOdd t)) there ∙ nibble-put _ _ (isOdd t)
+
+    -- the neighbour's nibble
+    pub narrow-nibble :
+        nibbleFor (isOdd (neighbourAt t)) (loaded (attributesAt t) (narrowStored t k .memory))
+        ≡ nibbleFor (isOdd (neighbourAt t)) (loaded (attributesAt t) (k .memory))
+    narrow-nibble =
+        ap (nibbleFor (isOdd (neighbourAt t))) there ∙ rw (neighbour-odd t) (nibble-stays (loaded (attributesAt t) (k .memory)) (registerOf (k .processor) 3) (isOdd t))

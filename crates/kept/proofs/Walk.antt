@@ -3,7 +3,7 @@
 -- Assumes nothing.
 use Prim.Native.Nat.{ℕ}
 use mathlib.Core.Path.{_≡_, refl}
-use mathlib.Core.Bool.{Bool, true, false}
+use mathlib.Core.Bool.{Bool, true, false, _&&_}
 use mathlib.Core.List.{List, [], _∷_}
 use mathlib.Core.Logic.{_≢_}
 use native.Mathlib.Omega.{arith}
@@ -15,20 +15,22 @@ use Rattle.basics.specs.Bits.{bits, isSet}
 use Rattle.address.specs.Boards.{boardDistricts, memoryBytes}
 use Rattle.address.specs.Triples.{legal}
 use Rattle.address.proofs.Places.{legal-blocks}
+use Rattle.address.proofs.Positions.{legal-attributes}
 use Rattle.address.specs.declared.triple.Triple.{Triple}
-use Rattle.shown.specs.Lengths.{romBytes, columnBytes, pictureBytes}
+use Rattle.shown.specs.Lengths.{romBytes, pictureBytes}
+use Rattle.shown.specs.Modes.{columnBytes}
 use Rattle.shown.specs.Refusals.{refused7, refused8, canDraw}
 use Rattle.processor.specs.declared.state.Processor.{Processor}
 use Rattle.command.specs.declared.Command.{Command}
-use Rattle.command.specs.declared.Command.the-variants.{Nop, Ind, Krf, Oct, NotListed}
+use Rattle.command.specs.declared.Command.the-variants.{Nop, Ind, Krf, Oct, Krl, NotListed}
 use Rattle.command.specs.declared.answer.Answer.the-variants as answer
 use Rattle.command.specs.declared.answer.Drawing.{Drawing}
 use Rattle.command.specs.declared.answer.Drawing.the-variants as drawing
 use Rattle.command.specs.Answers.{drawNumberOf}
 use Rattle.command.specs.Commands.{commandOf}
-use Rattle.processor.specs.States.{Chip, chip, registerOf, registerRead, withRegister, withLx, indirectWritten}
-use Rattle.processor.specs.Pointers.{pointerOf, incremented, incrementedIf}
-use Rattle.processor.specs.Bytes.{stored, oct, codeRead, codeStored, krf}
+use Rattle.processor.specs.States.{Chip, chip, registerOf, registerRead, withRegister, withLx, indirectWritten, shownOf}
+use Rattle.processor.specs.Pointers.{pointerOf, incremented, incrementedIf, advanced, advancedIf}
+use Rattle.processor.specs.Bytes.{stored, oct, codeRead, codeStored, krf, narrowRead, narrowStored, krl}
 use Rattle.processor.specs.Access.{Outcome, outcome, isUnlisted, isAstray, effect, indirect, ran, executed, checked, written, readOut, phased, turned}
 use Rattle.processor.specs.Draws.{DrawOutcome, drawOutcome, drawnPage, drawn}
 use Rattle.kept.specs.Orders.{firstOf, drawOrder}
@@ -116,13 +118,13 @@ draw-known P p m rom picture refused accepted =
     (λ e1.
     pick-known P (eqb (length rom) romBytes) _ _
     (λ e5.
-    pick-known P (eqb (length picture) (pictureBytes columnBytes)) _ _
-    (λ e6.
-    pick-known P (refused7 _) _ _ (λ e7. refused drawing.NotBuilt (rw (e1, e5, e6, e7)) (λ z. omega arith))
+    pick-known P (refused7 _) _ _ (λ e7. refused drawing.NotBuilt (rw (e1, e5, e7)) (λ z. omega arith))
     (λ e7.
-    pick-known P (refused8 _) _ _ (λ e8. refused drawing.LowOrigin (rw (e1, e5, e6, e7, e8)) (λ z. omega arith))
-    (λ e8. accepted (rw (e1, e5, e6, e7, e8)) (rw (e7, e8)))))
-    (λ e6. refused drawing.WrongPicture (rw (e1, e5, e6)) (λ z. omega arith)))
+    pick-known P (eqb (length picture) (pictureBytes (columnBytes (shownOf p)))) _ _
+    (λ e6.
+    pick-known P (refused8 _) _ _ (λ e8. refused drawing.LowOrigin (rw (e1, e5, e7, e6, e8)) (λ z. omega arith))
+    (λ e8. accepted (rw (e1, e5, e7, e6, e8)) (rw (e7, e8))))
+    (λ e6. refused drawing.WrongPicture (rw (e1, e5, e7, e6)) (λ z. omega arith))))
     (λ e5. refused drawing.WrongRom (rw (e1, e5)) (λ z. omega arith)))
     (λ e1. refused drawing.WrongMemory (rw e1) (λ z. omega arith))
 
@@ -146,6 +148,15 @@ module _ (barred : Command → Bool) (K : Chip → Type 0) (by : KeptBy barred K
       let j = by .register k 7 _ h in
       pick-either (λ (q : Processor). K (chip q (k .memory))) (eqb (bits 0 6 (registerOf (k .processor) 7)) 39) _ _ (by .lx _ true _ j) j
 
+  -- KRL's increment
+  pub advance-keeps : (asked : Bool) (k : Chip) → K k → K (chip (advancedIf asked (k .processor)) (k .memory))
+  unfolding advancedIf advanced
+  advance-keeps true k h =
+      let j = by .register k 7 _ h in
+      pick-either (λ (q : Processor). K (chip q (k .memory))) (isSet 7 (registerOf (k .processor) 7) && eqb (bits 0 6 (registerOf (k .processor) 7)) 39)
+      _ _ (by .lx _ true _ j) j
+  advance-keeps false k h = h
+
   pub asked-keeps : (asked auxiliary : Bool) (k : Chip) → K k → K (chip (incrementedIf asked auxiliary (k .processor)) (k .memory))
   unfolding incrementedIf
   asked-keeps true auxiliary k h = increment-keeps auxiliary k h
@@ -154,7 +165,7 @@ module _ (barred : Command → Bool) (K : Chip → Type 0) (by : KeptBy barred K
   -- a command that stores has a legal pointer, since it is not refused
   pub effect-keeps :
       (c : Command) → barred c ≡ false → (k : Chip) → (isStore c ≡ true → isAstray c (k .processor) ≡ false) → K k → K (effect c k)
-  unfolding indirect krf codeRead codeStored oct
+  unfolding indirect krf codeRead codeStored oct krl narrowRead narrowStored
   effect-keeps Nop n k g h = h
   effect-keeps (Ind r true) n k g h = by .register k 1 _ h
   effect-keeps (Ind r false) n k g h = by .ind r n k h
@@ -172,6 +183,12 @@ module _ (barred : Command → Bool) (K : Chip → Type 0) (by : KeptBy barred K
       let t = pointerOf auxiliary (k .processor) in
       asked-keeps increments auxiliary _
       (by .store (Oct false auxiliary increments) refl n t (not-false (legal t) (g refl)) _ _ (by .lx k false false h))
+  effect-keeps (Krl true increments) n k g h = advance-keeps increments _ (by .register _ 3 _ (by .register _ 1 _ (by .lx k false false h)))
+  effect-keeps (Krl false increments) n k g h =
+      let t = pointerOf false (k .processor) in
+      let l = not-false (legal t) (g refl) in
+      let s = by .store (Krl false increments) refl n in
+      advance-keeps increments _ (s _ (legal-attributes boardDistricts t l) _ _ (s t l _ _ (by .lx k false false h)))
   effect-keeps NotListed n k g h = h
 
   -- an accepted access alone runs its command

@@ -4,7 +4,7 @@ use Prim.Native.Nat.{ℕ}
 use mathlib.Core.Path.{_≡_}
 use mathlib.Core.List.{List}
 use Rattle.shown.specs.declared.Shown.{Shown}
-use Rattle.rows.specs.Rows.{rowOf}
+use Rattle.picture.specs.Rows.{rowOf}
 use Rattle.reading.specs.Agreeing.{AgreeOnList}
 
 -- the frame law: a row has the same bytes in two memories that agree on its reading list

@@ -11,12 +11,16 @@ use mathlib.Core.Logic.{_≢_}
 use lib.ListN.{length}
 use Rattle.basics.specs.Choice.{pick, oneIf}
 use Rattle.address.specs.Boards.{memoryBytes}
-use Rattle.address.specs.Places.{byteAt}
+use Rattle.address.specs.Narrow.{isOdd, attributesAt, neighbourAt, nibbleFor, bothHalves}
+use Rattle.address.specs.Places.{byteAt, loaded}
 use Rattle.address.specs.Pointers.{mainPointer, auxiliaryPointer}
 use Rattle.address.specs.Triples.{legal}
+use Rattle.address.specs.declared.triple.Triple.{Triple}
+use Rattle.shown.specs.Lengths.{fortyBytes, pictureBytes}
+use Rattle.shown.specs.Modes.{isEighty}
 use Rattle.page.specs.Marks.{isMarked}
 use Rattle.picture.specs.Redraws.{fresh}
-use Rattle.command.specs.declared.Command.the-variants.{Krf, Oct}
+use Rattle.command.specs.declared.Command.the-variants.{Krf, Oct, Krl}
 use Rattle.processor.specs.declared.draw.Drawn.{Drawn}
 use Rattle.processor.specs.declared.execute.Answered.{Answered}
 use Rattle.processor.specs.Access.{Outcome, outcomeOf}
@@ -66,8 +70,16 @@ EachNumberReached = Gives 0 × Gives 1 × Gives 2 × Gives 3 × Gives 4 × Gives
 abbrev pub Redraws : (ℕ → Type 0) → Type 0
 Redraws Rows = Reached (λ o w. (o ≡ draw own own own) × (done o w .number ≡ 0) × Rows (done o w .value))
 
+-- and one of 80 columns, of all 25 rows, into another picture than the kept one, which is of 40 columns
+abbrev pub EightyReached : Type 0
+EightyReached =
+    Reached
+    (λ o w.
+    (length (w .picture) ≡ pictureBytes fortyBytes) × (pictureLent o ≢ own) × (isEighty (shownOf (w .processor)) ≡ true)
+    × (done o w .number ≡ 0) × (done o w .value ≡ 25))
+
 abbrev pub DrawsReached : Type 0
-DrawsReached = Redraws (λ n. n ≡ 25) × Redraws (λ n. (0 < n) × (n < 25))
+DrawsReached = Redraws (λ n. n ≡ 25) × Redraws (λ n. (0 < n) × (n < 25)) × EightyReached
 
 -- a contract says that what is returned and what is left make the outcome of the definition: two that do so for the same input are the same
 abbrev pub OneAccess : Type 0
@@ -92,12 +104,15 @@ get n = read own (0x20 + n)
 abbrev pub execute : ℕ → Operation
 execute c = write own 0x28 c
 
--- KRF 00, read 08; OCT 30, plus 4 auxiliary pointer, plus 8 read; each plus 1 with increment
+-- KRF 00, read 08; OCT 30, plus 4 auxiliary pointer, plus 8 read; KRL 50, read 58; each plus 1 with increment
 abbrev pub krfCode : Bool → Bool → ℕ
 krfCode reads increments = 8 * oneIf reads + oneIf increments
 
 abbrev pub octCode : Bool → Bool → Bool → ℕ
 octCode reads auxiliary increments = 0x30 + 8 * oneIf reads + 4 * oneIf auxiliary + oneIf increments
+
+abbrev pub krlCode : Bool → Bool → ℕ
+krlCode reads increments = 0x50 + 8 * oneIf reads + oneIf increments
 
 -- R1, R2 and R3 read: C, B and A
 abbrev pub codeReplies : ℕ → ℕ → ℕ → List Reply
@@ -126,7 +141,22 @@ ByteRoundTrip =
     replies (pointers ++ execute (octCode true auxiliary j) ∷ get 1 ∷ []) (run between stored)
     ≡ reply 0 0 ∷ reply 0 0 ∷ reply 0 0 ∷ reply 0 0 ∷ reply 0 0 ∷ reply 0 v ∷ []
 
--- both however the commands come to be executed: o, accepted, stores by KRF or OCT what its registers then hold; q, accepted, reads at a pointer
+-- R1 and R3 read: C, and of A the nibble of the position in both halves
+abbrev pub narrowReplies : Triple → ℕ → ℕ → List Reply
+narrowReplies t c a = reply 0 c ∷ reply 0 (bothHalves (nibbleFor (isOdd t) a)) ∷ []
+
+-- a 12-bit code the same way, by KRL
+abbrev pub NarrowRoundTrip : Type 0
+NarrowRoundTrip =
+    (m rom picture : List ℕ) (before between : List Operation) (r6 r7 c a : ℕ) (i j : Bool) →
+    length m ≡ memoryBytes → legal (mainPointer r6 r7) ≡ true →
+    let pointer = put 6 r6 ∷ put 7 r7 ∷ [] in
+    let stored = run (pointer ++ put 1 c ∷ put 3 a ∷ execute (krlCode false i) ∷ []) (run before (first m rom picture)) in
+    Quiet between stored →
+    replies (pointer ++ execute (krlCode true j) ∷ get 1 ∷ get 3 ∷ []) (run between stored)
+    ≡ reply 0 0 ∷ reply 0 0 ∷ reply 0 0 ∷ narrowReplies (mainPointer r6 r7) c a
+
+-- all three however the commands come to be executed: o, accepted, stores by KRF, OCT or KRL what its registers then hold; q, accepted, reads at a pointer
 -- with the same X, Y and Z
 abbrev pub CodeKept : Type 0
 CodeKept =
@@ -146,13 +176,34 @@ ByteKept =
     memoryLent q ≡ own → commandRun q u ≡ Oct true y j → pointerOf y (registered q u) ≡ pointerOf x (registered o w) →
     registerOf (step q u .processor) 1 ≡ registerOf (registered o w) 1
 
+abbrev pub NarrowKept : Type 0
+NarrowKept =
+    (m rom picture : List ℕ) (before between : List Operation) (o q : Operation) (i j : Bool) →
+    let w = run before (first m rom picture) in
+    let u = run between (step o w) in
+    let t = pointerOf false (registered o w) in
+    memoryLent o ≡ own → commandRun o w ≡ Krl false i → Quiet between (step o w) →
+    memoryLent q ≡ own → commandRun q u ≡ Krl true j → pointerOf false (registered q u) ≡ t →
+    (registerOf (step q u .processor) 1 ≡ registerOf (registered o w) 1)
+    × (registerOf (step q u .processor) 3 ≡ bothHalves (nibbleFor (isOdd t) (registerOf (registered o w) 3)))
+
+-- and the neighbour, the other position of the column, has the C and the nibble that it had
+abbrev pub NeighbourKept : Type 0
+NeighbourKept =
+    (o : Operation) (w : World) (i : Bool) →
+    let t = pointerOf false (registered o w) in
+    memoryLent o ≡ own → commandRun o w ≡ Krl false i →
+    (loaded (neighbourAt t) (step o w .memory) ≡ loaded (neighbourAt t) (w .memory))
+    × (nibbleFor (isOdd (neighbourAt t)) (loaded (attributesAt t) (step o w .memory))
+    ≡ nibbleFor (isOdd (neighbourAt t)) (loaded (attributesAt t) (w .memory)))
+
 -- bytes 40 to 63 of each block are unused and stay as they were, over every run
 abbrev pub UnusedStay : Type 0
 UnusedStay =
     (os : List Operation) (w : World) (z i : ℕ) → 40 ≤ i → i < 64 → byteAt (run os w .memory) (1024 * z + i) ≡ byteAt (w .memory) (1024 * z + i)
 
 abbrev pub Demand2 : Type 0
-Demand2 = CodeRoundTrip × ByteRoundTrip × CodeKept × ByteKept × UnusedStay
+Demand2 = CodeRoundTrip × ByteRoundTrip × NarrowRoundTrip × CodeKept × ByteKept × NarrowKept × NeighbourKept × UnusedStay
 
 -- 3. From power-up, over any sequence of accesses, phase changes and draws, the picture kept by redrawing marked rows equals, after each
 -- accepted draw, the picture drawn afresh from the present memory, registers, character ROM and phase. A row is marked exactly when the rules

@@ -6,10 +6,11 @@ use mathlib.Core.Bool.{Bool, true, false}
 use mathlib.Core.List.{List}
 use Rattle.basics.specs.Parts.{partOf}
 use Rattle.shown.specs.declared.Shown.{Shown}
-use Rattle.shown.specs.Lengths.{columnBytes, rowBytes}
+use Rattle.shown.specs.Lengths.{rowBytes}
+use Rattle.shown.specs.Modes.{columnBytes}
 use Rattle.shown.specs.Refusals.{canDraw}
 use Rattle.page.specs.Marks.{isMarked}
-use Rattle.rows.specs.Rows.{rowOf}
+use Rattle.picture.specs.Rows.{rowOf}
 use Rattle.processor.specs.declared.state.Processor.{Processor}
 use Rattle.processor.specs.States.{shownOf}
 use Rattle.kept.specs.Runs.{World}
@@ -18,7 +19,7 @@ use Rattle.kept.specs.Runs.{World}
 abbrev pub FreshOn : Shown → List Bool → List ℕ → List ℕ → List ℕ → Type 0
 FreshOn shown marks m rom picture =
     (r : ℕ) → r < 25 → isMarked marks r ≡ false →
-    (canDraw shown ≡ true) × (partOf (rowBytes columnBytes) picture r ≡ rowOf m rom shown r)
+    (canDraw shown ≡ true) × (partOf (rowBytes (columnBytes shown)) picture r ≡ rowOf m rom shown r)
 
 abbrev pub Fresh : Processor → List ℕ → List ℕ → List ℕ → Type 0
 Fresh p m rom picture = FreshOn (shownOf p) (p .marks) m rom picture

@@ -8,7 +8,8 @@ use lib.ListN.{length}
 use Rattle.basics.specs.Bits.{bits, isSet}
 use Rattle.basics.specs.Choice.{pick}
 use Rattle.address.specs.Boards.{memoryBytes}
-use Rattle.shown.specs.Lengths.{romBytes, columnBytes, pictureBytes}
+use Rattle.shown.specs.Lengths.{romBytes, pictureBytes}
+use Rattle.shown.specs.Modes.{columnBytes}
 use Rattle.shown.specs.Refusals.{refused7, refused8}
 use Rattle.processor.specs.declared.state.Processor.{Processor}
 use Rattle.command.specs.Commands.{commandOf}
@@ -39,13 +40,13 @@ accessOrder address p m =
     ∷ gives (isSet 3 address && isAstray (commandOf (registerOf p 0)) p) 4
     ∷ []
 
--- draw 1, 5, 6, 7, 8
+-- draw 1, 5, 7, 6, 8; 6 asks for the length that goes with the mode
 abbrev pub drawOrder : Processor → List ℕ → List ℕ → List ℕ → List Refusal
 drawOrder p m rom picture =
     gives (not (eqb (length m) memoryBytes)) 1
     ∷ gives (not (eqb (length rom) romBytes)) 5
-    ∷ gives (not (eqb (length picture) (pictureBytes columnBytes))) 6
     ∷ gives (refused7 (shownOf p)) 7
+    ∷ gives (not (eqb (length picture) (pictureBytes (columnBytes (shownOf p))))) 6
     ∷ gives (refused8 (shownOf p)) 8
     ∷ []
 

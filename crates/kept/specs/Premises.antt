@@ -1,5 +1,5 @@
 -- The premises of demand 3: the ROM stays the same, and nobody else writes the memory or the kept picture. What a caller lends is then what is
--- kept, or is refused for its length; and another picture may be lent while every row is marked, since all of it is drawn.
+-- kept, or is refused for its length; and another picture may be lent while every row is marked, as after a mode change, since all of it is drawn.
 -- Assumes nothing.
 use Prim.Native.Nat.{ℕ, _<_}
 use mathlib.Core.Path.{_≡_}
@@ -8,8 +8,10 @@ use mathlib.Core.List.{List, [], _∷_}
 use mathlib.Core.Logic.{_≢_, _⊎_}
 use lib.ListN.{length}
 use Rattle.address.specs.Boards.{memoryBytes}
-use Rattle.shown.specs.Lengths.{romBytes, columnBytes, pictureBytes}
+use Rattle.shown.specs.Lengths.{romBytes, pictureBytes}
+use Rattle.shown.specs.Modes.{columnBytes}
 use Rattle.page.specs.Marks.{isMarked}
+use Rattle.processor.specs.States.{shownOf}
 use Rattle.kept.specs.Runs.{Lent, own, other, Operation, write, read, turn, draw, World, step}
 
 -- the kept buffer, or a list that is not n bytes long
@@ -21,7 +23,7 @@ abbrev pub EveryRowMarked : World → Type 0
 EveryRowMarked w = (r : ℕ) → r < 25 → isMarked (w .processor .marks) r ≡ true
 
 abbrev pub FairPicture : Lent → World → Type 0
-FairPicture z w = OwnOrWrong (pictureBytes columnBytes) z ⊎ EveryRowMarked w
+FairPicture z w = OwnOrWrong (pictureBytes (columnBytes (shownOf (w .processor)))) z ⊎ EveryRowMarked w
 
 abbrev pub Fair : Operation → World → Type 0
 Fair (write x address v) w = OwnOrWrong memoryBytes x

@@ -7,12 +7,12 @@ use lib.Dec.{eqb}
 use Rattle.basics.specs.Bits.{isSet}
 use Rattle.basics.specs.Choice.{pick}
 use Rattle.command.specs.declared.Command.{Command}
-use Rattle.command.specs.declared.Command.the-variants.{Nop, Ind, Krf, Oct, NotListed}
+use Rattle.command.specs.declared.Command.the-variants.{Nop, Ind, Krf, Oct, Krl, NotListed}
 use Rattle.command.specs.Commands.{commandOf}
 use Rattle.processor.specs.States.{registerOf}
 use Rattle.kept.specs.Runs.{Operation, write, read, turn, draw, World, done, registered, step}
 
--- of the commands, KRF and OCT store, unless they read
+-- of the commands, KRF, OCT and KRL store, unless they read
 abbrev pub isStore : Command → Bool
 isStore Nop = false
 isStore (Ind r reads) = false
@@ -20,6 +20,8 @@ isStore (Krf true increments) = false
 isStore (Krf false increments) = true
 isStore (Oct true auxiliary increments) = false
 isStore (Oct false auxiliary increments) = true
+isStore (Krl true increments) = false
+isStore (Krl false increments) = true
 isStore NotListed = false
 
 -- and of those that mark, IND too, unless it reads
@@ -29,6 +31,7 @@ isMarker (Ind r true) = false
 isMarker (Ind r false) = true
 isMarker (Krf reads increments) = isStore (Krf reads increments)
 isMarker (Oct reads auxiliary increments) = isStore (Oct reads auxiliary increments)
+isMarker (Krl reads increments) = isStore (Krl reads increments)
 isMarker NotListed = false
 
 -- bit 3 of the address asks for execution

@@ -7,13 +7,15 @@ use lib.ListN.{length, getD}
 use Rattle.basics.specs.Bits.{bits, isSet}
 use Rattle.address.specs.Triples.{legal}
 use Rattle.address.specs.Boards.{memoryBytes}
+use Rattle.address.specs.Narrow.{isOdd, attributesAt, nibbleInto}
 use Rattle.address.specs.Places.{placeAt, blockAt, loaded}
 use Rattle.address.specs.declared.triple.Triple.{Triple}
 use Rattle.reading.specs.Lists.{onList}
+use Rattle.shown.specs.Modes.{isEighty}
 use Rattle.shown.specs.Refusals.{canDraw}
 use Rattle.reading.specs.Marks.{flashIn}
 use Rattle.command.specs.declared.Command.{Command}
-use Rattle.command.specs.declared.Command.the-variants.{Nop, Ind, Krf, Oct, NotListed}
+use Rattle.command.specs.declared.Command.the-variants.{Nop, Ind, Krf, Oct, Krl, NotListed}
 use Rattle.processor.specs.declared.state.Processor.{Processor}
 use Rattle.command.specs.Commands.{commandOf}
 use Rattle.processor.specs.States.{Chip, chip, registerOf, shownOf, cleared}
@@ -31,11 +33,11 @@ storeRule t v k r =
     let p = k .processor in
     (isShown p && not (eqb (loaded t (k .memory)) v)) && onList (shownOf p) (k .memory) (placeAt t) r
 
--- A changed value in ROR, DOR, PAT or TGS marks all 25
+-- A changed value in ROR, DOR, PAT or TGS marks all 25; in 80 columns one in MAT too
 abbrev pub indirectRule : ℕ → Processor → Bool
-indirectRule n p = not (eqb (getD (p .indirect) n 0) (registerOf p 1)) && not (eqb n 2)
+indirectRule n p = not (eqb (getD (p .indirect) n 0) (registerOf p 1)) && (not (eqb n 2) || isEighty (shownOf p))
 
--- A changed phase marks rows with a bichrome cell whose A3 is set; none while a draw would get 7 or 8
+-- A changed phase marks rows with a bichrome cell whose A3 is set, in 80 columns with a cell that flashes; none while a draw would get 7 or 8
 abbrev pub phaseRule : ℕ → Chip → ℕ → Bool
 phaseRule n k r = let p = k .processor in not (eqb (p .phase) n) && (isShown p && flashIn (shownOf p) (k .memory) r)
 
@@ -46,6 +48,14 @@ codeRule t k r =
     let k1 = stored (blockAt t 0) (registerOf p 1) k in
     let k2 = stored (blockAt t 1) (registerOf p 2) k1 in
     (storeRule (blockAt t 0) (registerOf p 1) k r || storeRule (blockAt t 1) (registerOf p 2) k1 r) || storeRule (blockAt t 2) (registerOf p 3) k2 r
+
+-- KRL stores C, then the attributes
+abbrev pub narrowRule : Triple → Chip → ℕ → Bool
+narrowRule t k r =
+    let p = k .processor in
+    let k1 = stored t (registerOf p 1) k in
+    storeRule t (registerOf p 1) k r
+    || storeRule (attributesAt t) (nibbleInto (isOdd t) (loaded (attributesAt t) (k .memory)) (registerOf p 3)) k1 r
 
 -- a command: those that store mark by their stores, where their pointer is legal
 abbrev pub commandRule : Command → Chip → ℕ → Bool
@@ -59,6 +69,9 @@ commandRule (Oct true auxiliary increments) k r = false
 commandRule (Oct false auxiliary increments) k r =
     legal (pointerOf auxiliary (k .processor))
     && storeRule (pointerOf auxiliary (k .processor)) (registerOf (k .processor) 1) (chip (cleared (k .processor)) (k .memory)) r
+commandRule (Krl true increments) k r = false
+commandRule (Krl false increments) k r =
+    legal (pointerOf false (k .processor)) && narrowRule (pointerOf false (k .processor)) (chip (cleared (k .processor)) (k .memory)) r
 commandRule NotListed k r = false
 
 -- an access that is not refused with 1 or 2, and executes; k is what the register access left

@@ -1,5 +1,6 @@
 // Reads pairs of an address and a value from standard input as writes, from power-up with zero memory, ROM and picture; then draws,
-// and prints the last write's number, the draw's number and the rows redrawn, and the first eight bytes of line 10 in hex.
+// and prints the last write's number, the draw's number and the rows redrawn, and the first eight bytes of line 10 in hex. The picture is
+// that of 40 columns: in 80 columns the draw is refused with 6.
 ghost use mathlib.Core.Path.{_≡_};
 ghost use Prim.Native.Nat.{_/_};
 ghost use lib.ListN.{length};
