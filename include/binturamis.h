@@ -4,7 +4,8 @@
  * A host lends four things and keeps them between calls: a processor (64 bytes), the private memory, the character ROM and the picture.
  * It writes and reads the eight registers, turns the phase for cells that flash, and asks for the marked rows to be drawn again. The kept
  * picture is right only if nothing else writes the memory and the picture, if the ROM stays as it is, and if each call is given the
- * processor that the call before it left.
+ * processor that the call before it left. Another picture may be lent to a draw whenever every row is marked, as after a change of TGS: a
+ * page of 80 columns has a longer picture than one of 40.
  *
  * Answers. write, read, turn and draw answer 65,536 * number + value, the value having 16 bits. Number 0 is accepted; any other is a
  * refusal, by its number below. The value of an accepted read is the register's, that of an accepted draw the rows redrawn, and every
@@ -26,11 +27,11 @@
 
 /* The version of the library and of this header. */
 #define BINTURAMIS_VERSION_MAJOR 0u
-#define BINTURAMIS_VERSION_MINOR 3u
-#define BINTURAMIS_VERSION_PATCH 3u
-#define BINTURAMIS_VERSION "0.3.3"
+#define BINTURAMIS_VERSION_MINOR 4u
+#define BINTURAMIS_VERSION_PATCH 0u
+#define BINTURAMIS_VERSION "0.4.0"
 
-/* The bytes of each thing that is lent. */
+/* The bytes of each thing that is lent. The picture has these in 40 columns, and BINTURAMIS_80_PICTURE_BYTES in 80. */
 #define BINTURAMIS_PROCESSOR_BYTES 64u
 #define BINTURAMIS_MEMORY_BYTES 16384u
 #define BINTURAMIS_ROM_BYTES 6400u
@@ -38,8 +39,8 @@
 #define BINTURAMIS_STATE_BYTES 48u
 
 /*
- * The picture: 25 rows of ten lines, row r in the 1,600 bytes from 1,600 * r. A line is 160 bytes, two pixels a byte, the left pixel in
- * the low four bits: 320 by 250 pixels.
+ * The picture in 40 columns: 25 rows of ten lines, row r in the 1,600 bytes from 1,600 * r. A line is 160 bytes, two pixels a byte, the
+ * left pixel in the low four bits: 320 by 250 pixels, cells of eight by ten.
  */
 #define BINTURAMIS_ROWS 25u
 #define BINTURAMIS_COLUMNS 40u
@@ -48,14 +49,23 @@
 #define BINTURAMIS_LINE_BYTES 160u
 
 /*
+ * The picture in 80 columns: again 25 rows of ten lines, row r in the 2,400 bytes from 2,400 * r. A line is 240 bytes, packed in the same
+ * way: 480 by 250 pixels, cells of six by ten.
+ */
+#define BINTURAMIS_80_COLUMNS 80u
+#define BINTURAMIS_80_PICTURE_BYTES 60000u
+#define BINTURAMIS_80_ROW_BYTES 2400u
+#define BINTURAMIS_80_LINE_BYTES 240u
+
+/*
  * The ROM: five sets of 128 characters of ten slices, in the order G0, G10, G11, G20, G21. The slice s of character c of a set is at
- * 1280 * set + 10 * c + s; its bit 0 is the leftmost pixel.
+ * 1280 * set + 10 * c + s; its bit 0 is the leftmost pixel. In 80 columns characters are of G0, and their bits 0 to 5 are shown.
  */
 #define BINTURAMIS_SET_BYTES 1280u
 #define BINTURAMIS_SLICES 10u
 
 /*
- * Refusals. An access (write, read) is checked in the order 1, 2, 3, 4; a phase change in the order 1, 9; a draw in the order 1, 5, 6, 7,
+ * Refusals. An access (write, read) is checked in the order 1, 2, 3, 4; a phase change in the order 1, 9; a draw in the order 1, 5, 7, 6,
  * 8. The first that applies is answered. After 3 and 4 the register access itself has happened, and nothing else: a refused read still
  * answers the value read. After every other refusal nothing at all has changed, and the value is 0. Where nothing has changed (1, 2, 5 to
  * 9, and 3 and 4 of a read, which writes no register) no byte of the processor is written either, whatever it holds.
@@ -66,8 +76,8 @@
 #define BINTURAMIS_NOT_LISTED 3u    /* a command to execute is not one of those below */
 #define BINTURAMIS_BAD_POINTER 4u   /* its pointer has X above 39 or Y from 1 to 7 */
 #define BINTURAMIS_WRONG_ROM 5u     /* ROM is not 6,400 bytes */
-#define BINTURAMIS_WRONG_PICTURE 6u /* picture is not 40,000 bytes */
-#define BINTURAMIS_NOT_BUILT 7u     /* TGS bits 7, 6 or 5, or PAT bit 7, not zero */
+#define BINTURAMIS_WRONG_PICTURE 6u /* picture is not 40,000 bytes, or 60,000 in 80 columns */
+#define BINTURAMIS_NOT_BUILT 7u     /* TGS bits 7, 6 or 5, or PAT bit 7, not zero; with TGS 7 and 6 both set, TGS 5 or PAT 7 */
 #define BINTURAMIS_LOW_ORIGIN 8u    /* origin YOR below 8 */
 #define BINTURAMIS_WRONG_PHASE 9u   /* phase is not 0 or 1 */
 
@@ -91,11 +101,19 @@
 /* The commands. A byte that is no sum of these as its line says gets refusal 3. */
 #define BINTURAMIS_KRF 0x00u /* R1, R2, R3 (C, B, A) with the cell at the main pointer; INCREMENT, READ may be added */
 #define BINTURAMIS_OCT 0x30u /* R1 with one byte; INCREMENT, AUXILIARY, READ may be added */
+#define BINTURAMIS_KRL 0x50u /* R1 and R3 with one of the two cells of a column, at the main pointer; INCREMENT, READ may be added */
 #define BINTURAMIS_IND 0x80u /* R1 with an indirect register, whose number is added; READ may be added */
 #define BINTURAMIS_NOP 0x91u /* nothing; 0x90 is the same */
 #define BINTURAMIS_INCREMENT 0x01u
 #define BINTURAMIS_AUXILIARY 0x04u
 #define BINTURAMIS_READ 0x08u
+
+/*
+ * KRL is for 80 columns, where the cell of position p, 0 to 79, is one of the two of column X = p / 2. Z0 of the main pointer (R7 bit 7)
+ * is 0 for the left one, whose p is even, and 1 for the right one. R1 is C. The four attributes are taken from the high half of R3 for the
+ * left cell and from the low half for the right one, so repeated in both they serve either; a read puts them into both. With INCREMENT
+ * the pointer goes on to the next position, and from the last one of a row to its first.
+ */
 
 /* The numbers of the indirect registers, for IND. */
 #define BINTURAMIS_TGS 1u
@@ -103,6 +121,9 @@
 #define BINTURAMIS_PAT 3u
 #define BINTURAMIS_DOR 4u
 #define BINTURAMIS_ROR 7u
+
+/* The bits of TGS that say how many columns the page has: both set, 80; both clear, 40. */
+#define BINTURAMIS_TGS_80 0xC0u
 
 /* The colours of a pixel. */
 #define BINTURAMIS_BLACK 0u
@@ -163,7 +184,7 @@ uint32_t binturamis_turn(binturamis_processor *p, const uint8_t *memory, size_t 
 
 /*
  * Draws the marked rows into the picture, touches no other byte of it, and clears the marks. The value is the number of rows redrawn.
- * Which they are is told by the marks before the draw, from binturamis_state. Refusals: 1, 5, 6, 7, 8.
+ * Which they are is told by the marks before the draw, from binturamis_state, and how long each is by its TGS. Refusals: 1, 5, 7, 6, 8.
  */
 uint32_t binturamis_draw(binturamis_processor *p, const uint8_t *memory, size_t memory_len, const uint8_t *rom, size_t rom_len,
                          uint8_t *picture, size_t picture_len);

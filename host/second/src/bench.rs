@@ -2,12 +2,15 @@
 //! to it.
 
 use crate::cell::Cell;
-use crate::marks::MarkRules;
+use crate::code::Code;
+use crate::mode::Mode;
 use crate::operation::Operation;
+use crate::packing::in_both_halves;
 use crate::picture::pixel;
 use crate::pointer::Pointer;
 use crate::processor::{Answer, Processor};
-use crate::{LINES, MEMORY, PICTURE, ROM};
+use crate::rules::Rules;
+use crate::{LINES, MEMORY, ROM};
 
 #[derive(Clone, Debug, PartialEq, Eq)]
 pub struct Bench {
@@ -18,13 +21,13 @@ pub struct Bench {
 }
 
 impl Bench {
-    /// Power-up with zero memory, ROM and picture.
+    /// Power-up with zero memory, ROM and picture, which is of 40 columns.
     pub fn power_up() -> Self {
         Bench {
             processor: Processor::power_up(),
             memory: vec![0; MEMORY],
             rom: vec![0; ROM],
-            picture: vec![0; PICTURE],
+            picture: vec![0; Mode::Forty.picture()],
         }
     }
 
@@ -32,6 +35,14 @@ impl Bench {
     pub fn drawable() -> Self {
         let mut bench = Bench::power_up();
         bench.indirect(7, 8);
+        bench
+    }
+
+    /// The same in 80 columns, with a picture of their length.
+    pub fn drawable_eighty() -> Self {
+        let mut bench = Bench::drawable();
+        bench.indirect(1, Mode::Eighty.tgs());
+        bench.fit_picture(0);
         bench
     }
 
@@ -52,8 +63,19 @@ impl Bench {
             .draw(&self.memory, &self.rom, &mut self.picture)
     }
 
-    /// One operation of a sequence under given mark rules.
-    pub fn apply_with<R: MarkRules>(&mut self, rules: &R, operation: Operation) -> Answer {
+    /// Lends another picture from here on, full of one byte, where the kept one has not the length
+    /// that goes with the mode. The mode has changed since that was drawn, so that every row must be
+    /// marked.
+    pub fn fit_picture(&mut self, byte: u8) {
+        let kept = self.picture.len();
+        let length = self.processor.mode().map_or(kept, Mode::picture);
+        if length != kept {
+            self.picture = vec![byte; length];
+        }
+    }
+
+    /// One operation of a sequence under given rules. A draw is lent a picture of the right length.
+    pub fn apply_with<R: Rules>(&mut self, rules: &R, operation: Operation) -> Answer {
         match operation {
             Operation::Write { address, value } => {
                 self.processor
@@ -63,7 +85,10 @@ impl Bench {
                 self.processor.read_with(rules, &mut self.memory, address)
             }
             Operation::Turn { phase } => self.processor.turn_with(rules, &self.memory, phase),
-            Operation::Draw => self.draw(),
+            Operation::Draw => {
+                self.fit_picture(0xEE);
+                self.draw()
+            }
         }
     }
 
@@ -82,6 +107,16 @@ impl Bench {
         self.write(0x22, cell.b);
         self.write(0x23, cell.a);
         self.write(0x29, cell.c)
+    }
+
+    /// KRL of a 12-bit code at X, Y and block Z, which is odd for an odd position.
+    pub fn store_code(&mut self, pointer: Pointer, code: Code) -> Answer {
+        let (down, across) = pointer.main_registers();
+        self.write(0x26, down);
+        self.write(0x27, across);
+        self.write(0x20, 0x50);
+        self.write(0x23, in_both_halves(code.nibble));
+        self.write(0x29, code.c)
     }
 
     /// OCT of one byte at X, Y and block Z through the main pointer.
@@ -105,11 +140,22 @@ impl Bench {
         }
     }
 
-    /// The eight pixels of one line of a cell in the kept picture, from the left.
+    /// The eight pixels of one line of a cell in the kept picture of 40 columns, from the left.
     pub fn pixels(&self, row: usize, column: usize, line: usize) -> [u8; 8] {
+        let (down, left) = (10 * row + line, 8 * column);
         let mut pixels = [0; 8];
         for (across, shown) in pixels.iter_mut().enumerate() {
-            *shown = pixel(&self.picture, 10 * row + line, 8 * column + across);
+            *shown = pixel(Mode::Forty, &self.picture, down, left + across);
+        }
+        pixels
+    }
+
+    /// The six pixels of one line of a cell in the kept picture of 80 columns, from the left.
+    pub fn narrow_pixels(&self, row: usize, position: usize, line: usize) -> [u8; 6] {
+        let (down, left) = (10 * row + line, 6 * position);
+        let mut pixels = [0; 6];
+        for (across, shown) in pixels.iter_mut().enumerate() {
+            *shown = pixel(Mode::Eighty, &self.picture, down, left + across);
         }
         pixels
     }

@@ -23,6 +23,10 @@ pub enum Command {
         increment: bool,
         read: bool,
     },
+    Krl {
+        increment: bool,
+        read: bool,
+    },
     Oct {
         pointer: Which,
         increment: bool,
@@ -31,13 +35,18 @@ pub enum Command {
 }
 
 impl Command {
-    /// The command of a byte, or nothing for a byte that the page does not list (refusal 3).
+    /// The command of a byte, or nothing for a byte that neither the page nor a request lists
+    /// (refusal 3).
     pub fn listed(byte: u8) -> Option<Command> {
         match byte {
             0x90 | 0x91 => Some(Command::Nop),
             0x00 | 0x01 | 0x08 | 0x09 => Some(Command::Krf {
                 increment: byte % 2 == 1,
                 read: byte >= 0x08,
+            }),
+            0x50 | 0x51 | 0x58 | 0x59 => Some(Command::Krl {
+                increment: byte % 2 == 1,
+                read: byte >= 0x58,
             }),
             0x30 | 0x31 | 0x34 | 0x35 | 0x38 | 0x39 | 0x3C | 0x3D => Some(oct(byte - 0x30)),
             0x80..=0x87 => ind(byte - 0x80, false),
@@ -50,7 +59,7 @@ impl Command {
     pub fn pointer(self) -> Option<Which> {
         match self {
             Command::Nop | Command::Ind { .. } => None,
-            Command::Krf { .. } => Some(Which::Main),
+            Command::Krf { .. } | Command::Krl { .. } => Some(Which::Main),
             Command::Oct { pointer, .. } => Some(pointer),
         }
     }

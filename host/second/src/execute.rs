@@ -2,14 +2,15 @@
 
 use crate::address::{code_block, place};
 use crate::command::{Command, Indirect};
-use crate::marks::MarkRules;
+use crate::packing::{in_both_halves, nibble};
 use crate::pointer::{Pointer, Which};
 use crate::processor::Processor;
+use crate::rules::Rules;
 use crate::ROWS;
 
 impl Processor {
     /// Runs the command in R0 and returns 0, or returns refusal 3 or 4 with nothing done.
-    pub(crate) fn execute<R: MarkRules>(&mut self, rules: &R, memory: &mut [u8]) -> u8 {
+    pub(crate) fn execute<R: Rules>(&mut self, rules: &R, memory: &mut [u8]) -> u8 {
         let Some(command) = Command::listed(self.registers[0]) else {
             return 3;
         };
@@ -17,8 +18,8 @@ impl Processor {
             if !Pointer::of(&self.registers, which).legal() {
                 return 4;
             }
-            // "An accepted KRF or OCT first clears both LX bits": those are the commands that use a
-            // pointer.
+            // "An accepted KRF or OCT first clears both LX bits", and so does KRL: those are the
+            // commands that use a pointer.
             self.lx_main = false;
             self.lx_auxiliary = false;
         }
@@ -26,7 +27,7 @@ impl Processor {
         0
     }
 
-    fn run<R: MarkRules>(&mut self, rules: &R, memory: &mut [u8], command: Command) {
+    fn run<R: Rules>(&mut self, rules: &R, memory: &mut [u8], command: Command) {
         match command {
             Command::Nop => {}
             Command::Ind { register, read } => {
@@ -40,6 +41,12 @@ impl Processor {
                 self.long_code(rules, memory, read);
                 if increment {
                     self.increment(Which::Main);
+                }
+            }
+            Command::Krl { increment, read } => {
+                self.packed_code(rules, memory, read);
+                if increment {
+                    self.next_position();
                 }
             }
             Command::Oct {
@@ -67,20 +74,21 @@ impl Processor {
 
     /// R1 to an indirect register. "A changed value" compares whole bytes, also the bits that the
     /// drawing ignores, and marks also while a draw would be refused.
-    fn set_indirect<R: MarkRules>(&mut self, rules: &R, register: Indirect) {
+    fn set_indirect<R: Rules>(&mut self, rules: &R, register: Indirect) {
         let value = self.registers[1];
         if *self.indirect(register) == value {
             return;
         }
+        let before = self.mode();
         *self.indirect(register) = value;
-        if rules.register_marks(register) {
+        if rules.register_marks(register, before, self.mode()) {
             self.marks = [true; ROWS];
         }
     }
 
     /// KRF's three bytes: "R1, R2, R3 are the C, B, A bytes", in that order in blocks Z, Z+1, Z+2
     /// of the district. They are three stores, each with the lists just before it.
-    fn long_code<R: MarkRules>(&mut self, rules: &R, memory: &mut [u8], read: bool) {
+    fn long_code<R: Rules>(&mut self, rules: &R, memory: &mut [u8], read: bool) {
         let pointer = Pointer::of(&self.registers, Which::Main);
         for byte in 0..3 {
             let place = place(pointer.x, pointer.y, code_block(pointer.z, byte));
@@ -92,8 +100,26 @@ impl Processor {
         }
     }
 
+    /// KRL's 12 bits. C is at X and Y in the pointer's own block, whose Z0 says even or odd; "the
+    /// attributes are at X, Y in block Z with Z0 = 0, plus 2 modulo 4 inside the district". They are
+    /// two stores, C first, each with the lists just before it. R2 stays.
+    fn packed_code<R: Rules>(&mut self, rules: &R, memory: &mut [u8], read: bool) {
+        let pointer = Pointer::of(&self.registers, Which::Main);
+        let odd = pointer.z % 2 == 1;
+        let even_block = pointer.z - pointer.z % 2;
+        let attributes = place(pointer.x, pointer.y, code_block(even_block, 2));
+        if read {
+            self.registers[1] = memory[pointer.place()];
+            self.registers[3] = in_both_halves(nibble(memory[attributes], odd));
+        } else {
+            self.store(rules, memory, pointer.place(), self.registers[1]);
+            let packed = rules.attributes(memory[attributes], self.registers[3], odd);
+            self.store(rules, memory, attributes, packed);
+        }
+    }
+
     /// OCT: R1 with one byte.
-    fn one_byte<R: MarkRules>(&mut self, rules: &R, memory: &mut [u8], which: Which, read: bool) {
+    fn one_byte<R: Rules>(&mut self, rules: &R, memory: &mut [u8], which: Which, read: bool) {
         let place = Pointer::of(&self.registers, which).place();
         if read {
             self.registers[1] = memory[place];
@@ -104,7 +130,7 @@ impl Processor {
 
     /// One store: it marks before it changes the byte. "While a draw would get 7 or 8, a store or
     /// phase change marks nothing". A row that is marked already need not be asked again.
-    fn store<R: MarkRules>(&mut self, rules: &R, memory: &mut [u8], place: usize, value: u8) {
+    fn store<R: Rules>(&mut self, rules: &R, memory: &mut [u8], place: usize, value: u8) {
         if memory[place] == value {
             return;
         }
@@ -132,6 +158,17 @@ impl Processor {
             *lx = true;
         } else {
             *across += 1;
+        }
+    }
+
+    /// KRL's increment: "from even to odd at the same X (Z0 set), from odd to the next X's even; from
+    /// X 39, odd, to X 0, even, and sets LXm". Z0 is bit 7 of R7.
+    fn next_position(&mut self) {
+        if self.registers[7] < 0x80 {
+            self.registers[7] += 0x80;
+        } else {
+            self.registers[7] -= 0x80;
+            self.increment(Which::Main);
         }
     }
 }

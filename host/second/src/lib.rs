@@ -8,13 +8,21 @@ pub mod address;
 pub mod bench;
 pub mod bichrome;
 pub mod cell;
+pub mod character;
+pub mod code;
 pub mod colour;
 pub mod command;
+pub mod eighty;
+pub mod eighty_columns;
 mod execute;
+pub mod forty;
 pub mod forty_columns;
 pub mod half;
 pub mod marks;
+pub mod mode;
+pub mod mosaic;
 pub mod operation;
+pub mod packing;
 pub mod page;
 pub mod panel;
 pub mod picture;
@@ -23,9 +31,11 @@ pub mod processor;
 pub mod quadrichrome;
 pub mod random;
 pub mod reading;
+pub mod rules;
 pub mod sequence;
 pub mod slip;
 
+pub use mode::Mode;
 pub use operation::Operation;
 pub use panel::panel;
 pub use processor::{Answer, Processor};
@@ -35,15 +45,11 @@ pub use slip::Slip;
 pub const MEMORY: usize = 16_384;
 /// The bytes of the ROM: five sets of 128 characters of ten slices.
 pub const ROM: usize = 6_400;
-/// The bytes of the picture: 250 lines of 160.
-pub const PICTURE: usize = 40_000;
 /// The rows of the screen, the service row among them.
 pub const ROWS: usize = 25;
-/// The cells of a row.
+/// The columns of a row, each of three bytes: the cells of a row of 40 columns.
 pub const COLUMNS: usize = 40;
+/// The positions of a row of 80 columns, two to a column: its cells.
+pub const POSITIONS: usize = 80;
 /// The lines of a row, which are also the slices of a character.
 pub const LINES: usize = 10;
-/// The bytes of one packed line.
-pub const LINE: usize = 160;
-/// The bytes of one row of the picture.
-pub const ROW: usize = 1_600;

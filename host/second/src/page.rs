@@ -1,12 +1,17 @@
-//! The shown page: which cell of private memory stands in a row and a column of the screen.
+//! The shown page: which cell of private memory stands in a row and a column of the screen, or in a
+//! row and a position.
 
 use crate::address::{code_block, place};
 use crate::cell::Cell;
-use crate::COLUMNS;
+use crate::code::Code;
+use crate::mode::Mode;
+use crate::packing::nibble;
+use crate::{COLUMNS, POSITIONS};
 
-/// The page that ROR and DOR choose in a memory of the right length.
+/// The page that TGS, ROR and DOR choose in a memory of the right length.
 #[derive(Clone, Copy)]
 pub struct Page<'a> {
+    pub mode: Mode,
     pub ror: u8,
     pub dor: u8,
     pub memory: &'a [u8],
@@ -30,7 +35,8 @@ pub fn first_block(ror: u8) -> usize {
 }
 
 impl Page<'_> {
-    /// The place of byte 0 (C), 1 (B) or 2 (A) of a cell.
+    /// The place of byte 0 (C), 1 (B) or 2 (A) of a cell. In 80 columns the same three bytes hold the
+    /// codes of two positions.
     pub fn code_place(&self, row: usize, column: usize, byte: usize) -> usize {
         let block = code_block(first_block(self.ror), byte);
         place(column, screen_y(self.ror, row), block)
@@ -47,5 +53,21 @@ impl Page<'_> {
     /// The forty cells of a row, from the left.
     pub fn cells(&self, row: usize) -> impl Iterator<Item = Cell> + '_ {
         (0..COLUMNS).map(move |column| self.cell(row, column))
+    }
+
+    /// The 12-bit code at a position p: "X = p div 2. Its C byte is in the page's first block for an
+    /// even p, in the next for an odd one. The third block's byte holds two nibbles of attributes".
+    pub fn code(&self, row: usize, position: usize) -> Code {
+        let (x, odd) = (position / 2, position % 2 == 1);
+        let packed = self.memory[self.code_place(row, x, 2)];
+        Code {
+            c: self.memory[self.code_place(row, x, usize::from(odd))],
+            nibble: nibble(packed, odd),
+        }
+    }
+
+    /// The eighty codes of a row, from the left.
+    pub fn codes(&self, row: usize) -> impl Iterator<Item = Code> + '_ {
+        (0..POSITIONS).map(move |position| self.code(row, position))
     }
 }

@@ -1,10 +1,11 @@
 //! The program `panel` as a function from standard input to what it prints.
 
 use crate::bench::Bench;
-use crate::LINE;
+use crate::mode::Mode;
 
 /// "Starts from power-up with zero memory, ROM and picture, reads byte pairs (address, value) as
-/// writes, draws, and prints two lines". Lines are counted from 0.
+/// writes, draws, and prints two lines". Lines are counted from 0. "The program `panel` stays at 40
+/// columns": its picture has that length, and in 80 columns the draw gets 6.
 pub fn panel(input: &[u8]) -> String {
     let mut bench = Bench::power_up();
     let mut last = 0;
@@ -12,7 +13,8 @@ pub fn panel(input: &[u8]) -> String {
         last = bench.write(pair[0], pair[1]).number;
     }
     let draw = bench.draw();
-    let shown: Vec<String> = bench.picture[10 * LINE..10 * LINE + 8]
+    let line = 10 * Mode::Forty.line();
+    let shown: Vec<String> = bench.picture[line..line + 8]
         .iter()
         .map(|byte| format!("{byte:02X}"))
         .collect();

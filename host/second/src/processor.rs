@@ -2,10 +2,11 @@
 
 use std::collections::BTreeSet;
 
-use crate::marks::{MarkRules, PageRules};
+use crate::mode::Mode;
 use crate::page::Page;
 use crate::picture::View;
-use crate::{reading, MEMORY, PICTURE, ROM, ROW, ROWS};
+use crate::rules::{PageRules, Rules};
+use crate::{reading, MEMORY, ROM, ROWS};
 
 /// The whole state. Private memory, ROM and picture are the host's and are lent to each call.
 #[derive(Clone, Debug, PartialEq, Eq)]
@@ -68,8 +69,8 @@ impl Processor {
         self.turn_with(&PageRules, memory, phase)
     }
 
-    /// A write under given mark rules. The access comes first, then the command runs.
-    pub fn write_with<R: MarkRules>(
+    /// A write under given rules. The access comes first, then the command runs.
+    pub fn write_with<R: Rules>(
         &mut self,
         rules: &R,
         memory: &mut [u8],
@@ -84,9 +85,9 @@ impl Processor {
         Answer { number, value: 0 }
     }
 
-    /// A read under given mark rules. It returns the value from before the command, also with
+    /// A read under given rules. It returns the value from before the command, also with
     /// refusals 3 and 4.
-    pub fn read_with<R: MarkRules>(&mut self, rules: &R, memory: &mut [u8], address: u8) -> Answer {
+    pub fn read_with<R: Rules>(&mut self, rules: &R, memory: &mut [u8], address: u8) -> Answer {
         if let Some(number) = access_refusal(memory, address) {
             return Answer::refusal(number);
         }
@@ -98,8 +99,8 @@ impl Processor {
         Answer { number, value }
     }
 
-    /// The phase change under given mark rules. Setting the present phase again marks nothing.
-    pub fn turn_with<R: MarkRules>(&mut self, rules: &R, memory: &[u8], phase: u8) -> Answer {
+    /// The phase change under given rules. Setting the present phase again marks nothing.
+    pub fn turn_with<R: Rules>(&mut self, rules: &R, memory: &[u8], phase: u8) -> Answer {
         if memory.len() != MEMORY {
             return Answer::refusal(1);
         }
@@ -128,10 +129,11 @@ impl Processor {
             return Answer::refusal(number);
         }
         let view = self.view(memory, rom);
+        let length = view.page.mode.row();
         let mut rows = 0;
         for row in 0..ROWS {
             if self.marks[row] {
-                picture[ROW * row..ROW * (row + 1)].copy_from_slice(&view.row(row));
+                picture[length * row..length * (row + 1)].copy_from_slice(&view.row(row));
                 rows += 1;
             }
         }
@@ -168,20 +170,37 @@ impl Processor {
         reading::list(&self.page(memory), row)
     }
 
+    /// The mode that TGS names, whatever a draw would be refused for.
+    pub fn mode(&self) -> Option<Mode> {
+        Mode::of(self.tgs)
+    }
+
     /// The refusal 7 or 8 that a draw would get from TGS, PAT and ROR alone.
     pub fn page_refusal(&self) -> Option<u8> {
-        if self.tgs >= 0x20 || self.pat >= 0x80 {
-            Some(7)
-        } else if self.ror % 32 < 8 {
-            Some(8)
-        } else {
-            None
+        match self.drawn_mode() {
+            None => Some(7),
+            Some(_) if self.has_low_origin() => Some(8),
+            Some(_) => None,
         }
     }
 
-    /// The page that ROR and DOR show in a memory.
+    /// The mode, or nothing with refusal 7: "TGS bits 7, 6 or 5, or PAT bit 7, not zero", and "7,
+    /// with TGS 7 and 6 both set, looks only at TGS 5 and PAT 7".
+    fn drawn_mode(&self) -> Option<Mode> {
+        let other_format = self.tgs / 32 % 2 == 1 || self.pat / 128 == 1;
+        self.mode().filter(|_| !other_format)
+    }
+
+    /// Refusal 8: "origin YOR below 8".
+    fn has_low_origin(&self) -> bool {
+        self.ror % 32 < 8
+    }
+
+    /// The page that TGS, ROR and DOR show in a memory. A TGS that names no mode is never drawn; its
+    /// page counts as one of 40 columns, so that it has an answer too.
     pub fn page<'a>(&self, memory: &'a [u8]) -> Page<'a> {
         Page {
+            mode: self.mode().unwrap_or(Mode::Forty),
             ror: self.ror,
             dor: self.dor,
             memory,
@@ -192,26 +211,31 @@ impl Processor {
         View {
             page: self.page(memory),
             rom,
+            mat: self.mat,
             pat: self.pat,
             phase: self.phase,
         }
     }
 
-    /// Draw is checked 1, 5, 6, 7, 8.
+    /// Draw is checked 1, 5, 7, 6, 8: "6 asks for the length that goes with the mode and is checked
+    /// after 7".
     fn draw_refusal(&self, memory: &[u8], rom: &[u8], picture: &[u8]) -> Option<u8> {
         if memory.len() != MEMORY {
-            Some(1)
-        } else if rom.len() != ROM {
-            Some(5)
-        } else if picture.len() != PICTURE {
-            Some(6)
-        } else {
-            self.page_refusal()
+            return Some(1);
+        }
+        if rom.len() != ROM {
+            return Some(5);
+        }
+        match self.drawn_mode() {
+            None => Some(7),
+            Some(mode) if picture.len() != mode.picture() => Some(6),
+            Some(_) if self.has_low_origin() => Some(8),
+            Some(_) => None,
         }
     }
 
     /// "Bit 3 asks for execution"; without it the access is accepted as it stands.
-    fn execute_if_asked<R: MarkRules>(&mut self, rules: &R, memory: &mut [u8], address: u8) -> u8 {
+    fn execute_if_asked<R: Rules>(&mut self, rules: &R, memory: &mut [u8], address: u8) -> u8 {
         if address / 8 % 2 == 1 {
             self.execute(rules, memory)
         } else {

@@ -4,6 +4,7 @@ use std::collections::BTreeSet;
 
 use crate::address::slice_place;
 use crate::cell::{Cell, Source};
+use crate::mode::Mode;
 use crate::page::Page;
 use crate::{COLUMNS, LINES};
 
@@ -45,8 +46,17 @@ pub fn upward_places(page: &Page, row: usize) -> Vec<usize> {
     places
 }
 
-/// The whole list of a row in the page's order; a place may stand in it more than once.
+/// The whole list of a row; a place may stand in it more than once. In 80 columns "a row's list is its
+/// 120 bytes".
 pub fn places(page: &Page, row: usize) -> Vec<usize> {
+    match page.mode {
+        Mode::Forty => places_of_forty(page, row),
+        Mode::Eighty => code_places(page, row),
+    }
+}
+
+/// The list of a row of 40 columns in the page's order.
+pub fn places_of_forty(page: &Page, row: usize) -> Vec<usize> {
     let mut places = code_places(page, row);
     for cell in page.cells(row) {
         places.extend(slice_places(page, cell));

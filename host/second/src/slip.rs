@@ -1,11 +1,17 @@
-//! Seven wrong mark rules, planted so that the tests can show that they would see one.
+//! Wrong rules, planted so that the tests can show that they would see one.
 
 use crate::address::place;
 use crate::cell::Cell;
+use crate::code::Code;
 use crate::command::Indirect;
-use crate::marks::{MarkRules, PageRules};
+use crate::marks;
+use crate::mode::Mode;
+use crate::packing::with_nibble;
 use crate::page::{first_block, screen_y, Page};
-use crate::reading::{code_places, has_double_height, places, slice_places, upward_places};
+use crate::reading::{
+    code_places, has_double_height, places, places_of_forty, slice_places, upward_places,
+};
+use crate::rules::Rules;
 use crate::COLUMNS;
 
 /// A wrong rule, or none.
@@ -18,7 +24,7 @@ pub enum Slip {
     RowAboveForgotten,
     /// A list goes one row upward and no further.
     ChainStopsAfterOneRow,
-    /// A phase change marks nothing.
+    /// A phase change marks nothing in 40 columns.
     PhaseForgotten,
     /// A change of DOR marks nothing.
     DorForgotten,
@@ -26,11 +32,27 @@ pub enum Slip {
     QuadrichromeSliceForgotten,
     /// The lists take the third block of a code from the next district.
     ThirdBlockFromNextDistrict,
+    /// A change of MAT marks nothing in 80 columns.
+    MatForgotten,
+    /// A change of MAT marks every row in 40 columns too.
+    MatMarksForty,
+    /// A mode change marks nothing.
+    ModeForgotten,
+    /// The flash attribute is forgotten: a phase change marks nothing in 80 columns.
+    FlashForgottenInEighty,
+    /// Bit 2 of a mosaic's nibble counts as its flash attribute.
+    MosaicsFlash,
+    /// A list in 80 columns takes slices and rows above, as one in 40 does.
+    EightyReadsAsForty,
+    /// KRL stores the whole of R3 as the byte of attributes.
+    WholeAttributesStored,
+    /// KRL takes the nibble from the other half of R3.
+    NibbleFromOtherHalf,
 }
 
 impl Slip {
-    /// The seven that are planted.
-    pub const PLANTED: [Slip; 7] = [
+    /// All that are planted.
+    pub const PLANTED: [Slip; 15] = [
         Slip::UserSliceForgotten,
         Slip::RowAboveForgotten,
         Slip::ChainStopsAfterOneRow,
@@ -38,10 +60,25 @@ impl Slip {
         Slip::DorForgotten,
         Slip::QuadrichromeSliceForgotten,
         Slip::ThirdBlockFromNextDistrict,
+        Slip::MatForgotten,
+        Slip::MatMarksForty,
+        Slip::ModeForgotten,
+        Slip::FlashForgottenInEighty,
+        Slip::MosaicsFlash,
+        Slip::EightyReadsAsForty,
+        Slip::WholeAttributesStored,
+        Slip::NibbleFromOtherHalf,
     ];
 
     /// The list that the slip takes for a row's.
     fn places(self, page: &Page, row: usize) -> Vec<usize> {
+        match page.mode {
+            Mode::Forty => self.places_of_forty(page, row),
+            Mode::Eighty => self.places_of_eighty(page, row),
+        }
+    }
+
+    fn places_of_forty(self, page: &Page, row: usize) -> Vec<usize> {
         match self {
             Slip::UserSliceForgotten => list_of(page, row, Cell::is_quadrichrome, upward_places),
             Slip::RowAboveForgotten => list_of(page, row, |_| true, |_, _| Vec::new()),
@@ -50,24 +87,59 @@ impl Slip {
                 list_of(page, row, |cell| !cell.is_quadrichrome(), upward_places)
             }
             Slip::ThirdBlockFromNextDistrict => with_next_district(page, row),
-            Slip::None | Slip::PhaseForgotten | Slip::DorForgotten => places(page, row),
+            _ => places(page, row),
+        }
+    }
+
+    fn places_of_eighty(self, page: &Page, row: usize) -> Vec<usize> {
+        match self {
+            Slip::EightyReadsAsForty => places_of_forty(page, row),
+            Slip::ThirdBlockFromNextDistrict => code_places_of_next_district(page, row),
+            _ => places(page, row),
         }
     }
 }
 
-impl MarkRules for Slip {
+impl Rules for Slip {
     fn store_marks(&self, page: &Page, row: usize, place: usize) -> bool {
         self.places(page, row).contains(&place)
     }
 
-    fn register_marks(&self, register: Indirect) -> bool {
-        let forgotten = *self == Slip::DorForgotten && register == Indirect::Dor;
-        !forgotten && PageRules.register_marks(register)
+    fn register_marks(
+        &self,
+        register: Indirect,
+        before: Option<Mode>,
+        after: Option<Mode>,
+    ) -> bool {
+        match (self, register) {
+            (Slip::DorForgotten, Indirect::Dor) => false,
+            (Slip::MatForgotten, Indirect::Mat) => false,
+            (Slip::MatMarksForty, Indirect::Mat) => after.is_some(),
+            (Slip::ModeForgotten, Indirect::Tgs) => before == after,
+            _ => marks::by_register(register, after),
+        }
     }
 
     fn phase_marks(&self, page: &Page, row: usize) -> bool {
-        *self != Slip::PhaseForgotten && PageRules.phase_marks(page, row)
+        match (self, page.mode) {
+            (Slip::PhaseForgotten, Mode::Forty) => false,
+            (Slip::FlashForgottenInEighty, Mode::Eighty) => false,
+            (Slip::MosaicsFlash, Mode::Eighty) => page.codes(row).any(has_bit_2),
+            _ => marks::by_phase(page, row),
+        }
     }
+
+    fn attributes(&self, packed: u8, r3: u8, odd: bool) -> u8 {
+        match self {
+            Slip::WholeAttributesStored => r3,
+            Slip::NibbleFromOtherHalf => with_nibble(packed, r3.rotate_left(4), odd),
+            _ => with_nibble(packed, r3, odd),
+        }
+    }
+}
+
+fn has_bit_2(code: Code) -> bool {
+    code.nibble >> 2 & 1 == 1
 }
 
 /// A list with only the slices of the cells that `keeps` keeps, and with its own way upward.

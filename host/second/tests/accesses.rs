@@ -159,11 +159,15 @@ fn without_increment_x_stays() {
 }
 
 #[test]
-fn krf_and_oct_clear_both_lx_bits_and_the_others_leave_them() {
+fn krf_krl_and_oct_clear_both_lx_bits_and_the_others_leave_them() {
     for (command, cleared) in [
         (0x00, true),
         (0x01, true),
         (0x08, true),
+        (0x50, true),
+        (0x51, true),
+        (0x58, true),
+        (0x59, true),
         (0x30, true),
         (0x34, true),
         (0x3D, true),
@@ -172,6 +176,7 @@ fn krf_and_oct_clear_both_lx_bits_and_the_others_leave_them() {
         (0x82, false),
         (0x8A, false),
         (0x05, false),
+        (0x52, false),
     ] {
         let mut bench = Bench::power_up();
         bench.processor.lx_main = true;

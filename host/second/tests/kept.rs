@@ -1,27 +1,58 @@
-//! The kept picture equals the fresh one after every accepted draw of random sequences.
+//! The kept picture equals the fresh one after every accepted draw of random sequences, in both modes
+//! and from one mode to the other.
 
+mod expected;
+
+use expected::expected_marks;
 use second::bench::Bench;
-use second::marks::PageRules;
+use second::half::{shows_lower, shows_right};
 use second::operation::Operation;
-use second::processor::Processor;
+use second::page::Page;
 use second::random::Random;
+use second::rules::PageRules;
 use second::sequence::Sequence;
+use second::Mode;
 
-/// What the sequences met, so that a tame generator is seen.
-#[derive(Default)]
-struct Met {
+/// What the sequences met in one mode, so that a tame generator is seen.
+#[derive(Debug, Default)]
+struct Drawn {
     accepted: usize,
-    refused: usize,
     partial: usize,
+    /// Draws of every row that were lent another picture of the same length.
+    lent: usize,
+    /// Draws that were lent a picture of this length for one of the other.
+    from_other_mode: usize,
+    phases: [usize; 2],
+    first_blocks: [usize; 8],
+    origins: [usize; 32],
+}
+
+#[derive(Debug, Default)]
+struct Met {
+    forty: Drawn,
+    eighty: Drawn,
+    refused: usize,
+    /// Cells of 40 columns.
     quadrichrome: usize,
     user: usize,
     flashing: usize,
     lower: usize,
     right: usize,
-    phases: [usize; 2],
-    first_blocks: [usize; 8],
-    origins: [usize; 32],
+    /// Cells of 80 columns.
+    mosaics: usize,
+    underlined: usize,
+    hidden: usize,
+    negative: usize,
     numbers: [usize; 10],
+}
+
+impl Met {
+    fn drawn(&mut self, mode: Mode) -> &mut Drawn {
+        match mode {
+            Mode::Forty => &mut self.forty,
+            Mode::Eighty => &mut self.eighty,
+        }
+    }
 }
 
 fn random_bench(sequence: &mut Sequence, seed: u64) -> Bench {
@@ -43,8 +74,9 @@ fn check_accepted_draw(before: &Bench, after: &Bench, rows: u8) {
     expected.marks = [false; 25];
     assert_eq!(after.processor, expected);
     assert_eq!(after.memory, before.memory);
+    let length = after.picture.len() / 25;
     for row in 0..25 {
-        let bytes = 1600 * row..1600 * (row + 1);
+        let bytes = length * row..length * (row + 1);
         if !marks[row] {
             assert_eq!(after.picture[bytes.clone()], before.picture[bytes]);
         }
@@ -61,38 +93,83 @@ fn look(met: &mut Met, bench: &Bench) {
     let processor = &bench.processor;
     let page = processor.page(&bench.memory);
     for row in 0..25 {
-        for column in 0..40 {
-            let cell = page.cell(row, column);
-            met.quadrichrome += usize::from(cell.is_quadrichrome());
-            met.user += usize::from(cell.b >> 6 == 2);
-            met.flashing += usize::from(cell.is_flashing() && processor.pat >= 0x40);
-            met.lower += usize::from(second::half::shows_lower(&page, row, column));
-            met.right += usize::from(second::half::shows_right(&page, row, column));
+        match page.mode {
+            Mode::Forty => look_at_cells(met, &page, row, processor.pat),
+            Mode::Eighty => look_at_codes(met, &page, row, processor.pat, processor.phase),
         }
     }
-    met.phases[usize::from(processor.phase)] += 1;
-    met.first_blocks[usize::from(processor.ror / 32)] += 1;
-    met.origins[usize::from(processor.ror % 32)] += 1;
+    let drawn = met.drawn(page.mode);
+    drawn.phases[usize::from(processor.phase)] += 1;
+    drawn.first_blocks[usize::from(processor.ror / 32)] += 1;
+    drawn.origins[usize::from(processor.ror % 32)] += 1;
+}
+
+fn look_at_cells(met: &mut Met, page: &Page, row: usize, pat: u8) {
+    for column in 0..40 {
+        let cell = page.cell(row, column);
+        met.quadrichrome += usize::from(cell.is_quadrichrome());
+        met.user += usize::from(cell.b >> 6 == 2);
+        met.flashing += usize::from(cell.is_flashing() && pat >= 0x40);
+        met.lower += usize::from(shows_lower(page, row, column));
+        met.right += usize::from(shows_right(page, row, column));
+    }
+}
+
+fn look_at_codes(met: &mut Met, page: &Page, row: usize, pat: u8, phase: u8) {
+    for code in page.codes(row) {
+        met.mosaics += usize::from(code.is_mosaic());
+        met.underlined += usize::from(code.is_underlined());
+        met.negative += usize::from(code.negative() == 1);
+        let flashes = code.is_flashing() && pat >= 0x40;
+        met.hidden += usize::from(flashes && phase != code.negative());
+    }
+}
+
+/// "Another picture may be lent whenever every row is marked, as after a mode change": one of the
+/// other length where the mode asks for it, and in every second draw of all rows one of the same.
+fn lend_other_picture(met: &mut Met, random: &mut Random, bench: &mut Bench) {
+    let Some(mode) = bench.processor.mode() else {
+        return;
+    };
+    let every_row = bench.processor.marks == [true; 25];
+    if bench.picture.len() != mode.picture() {
+        assert!(every_row, "a mode change marks every row");
+        bench.picture = random.bytes(mode.picture());
+        met.drawn(mode).from_other_mode += 1;
+    } else if every_row && random.one_in(2) {
+        bench.picture = random.bytes(mode.picture());
+        met.drawn(mode).lent += 1;
+    }
+}
+
+fn draw(met: &mut Met, random: &mut Random, bench: &mut Bench) {
+    lend_other_picture(met, random, bench);
+    let before = bench.clone();
+    let answer = bench.draw();
+    if answer.number == 0 {
+        check_accepted_draw(&before, bench, answer.value);
+        let mode = bench
+            .processor
+            .mode()
+            .expect("a page that was drawn has a mode");
+        met.drawn(mode).accepted += 1;
+        met.drawn(mode).partial += usize::from((1..25).contains(&answer.value));
+        look(met, bench);
+    } else {
+        assert_eq!(Some(answer.number), before.processor.page_refusal());
+        assert_eq!(*bench, before);
+        met.refused += 1;
+    }
 }
 
 fn run(met: &mut Met, seed: u64, operations: usize) {
+    let mut random = Random::new(!seed);
     let mut sequence = Sequence::new(seed);
     let mut bench = random_bench(&mut sequence, seed);
     for _ in 0..operations {
         let operation = sequence.operation(&bench.processor, &bench.memory);
         if operation == Operation::Draw {
-            let before = bench.clone();
-            let answer = bench.draw();
-            if answer.number == 0 {
-                check_accepted_draw(&before, &bench, answer.value);
-                met.accepted += 1;
-                met.partial += usize::from((1..25).contains(&answer.value));
-                look(met, &bench);
-            } else {
-                assert_eq!(Some(answer.number), before.processor.page_refusal());
-                assert_eq!(bench, before);
-                met.refused += 1;
-            }
+            draw(met, &mut random, &mut bench);
         } else {
             let answer = bench.apply_with(&PageRules, operation);
             met.numbers[usize::from(answer.number)] += 1;
@@ -106,70 +183,109 @@ fn run(met: &mut Met, seed: u64, operations: usize) {
 #[test]
 fn kept_equals_fresh() {
     let mut met = Met::default();
-    for seed in 0..60 {
+    for seed in 0..80 {
         run(&mut met, seed, 1_000);
     }
-    assert!(met.accepted > 1_500, "accepted {}", met.accepted);
-    assert!(met.partial > 700, "partial {}", met.partial);
+    println!("{met:?}");
+    for drawn in [&met.forty, &met.eighty] {
+        assert!(drawn.accepted > 1_200, "{drawn:?}");
+        assert!(drawn.partial > 600, "{drawn:?}");
+        assert!(drawn.lent > 100, "{drawn:?}");
+        assert!(drawn.from_other_mode > 100, "{drawn:?}");
+        assert!(drawn.phases.iter().all(|times| *times > 100), "{drawn:?}");
+        let blocks = drawn.first_blocks;
+        assert!(blocks.iter().all(|times| *times > 20), "{drawn:?}");
+        let origins = &drawn.origins[8..];
+        assert!(origins.iter().all(|times| *times > 0), "{drawn:?}");
+    }
     assert!(met.refused > 20, "refused {}", met.refused);
-    let cells = met.accepted * 1_000;
+    let (accepted, cells) = (met.forty.accepted, 1_000 * met.forty.accepted);
     assert!(met.quadrichrome > cells / 20);
     assert!(met.user > cells / 20);
     assert!(met.flashing > cells / 20);
-    assert!(met.lower > met.accepted, "lower halves {}", met.lower);
-    assert!(met.right > met.accepted, "right halves {}", met.right);
-    assert!(met.phases.iter().all(|times| *times > 100));
-    assert!(met.first_blocks.iter().all(|times| *times > 20));
-    assert!(met.origins[8..].iter().all(|times| *times > 0));
+    assert!(met.lower > accepted, "lower halves {}", met.lower);
+    assert!(met.right > accepted, "right halves {}", met.right);
+    let cells = 2_000 * met.eighty.accepted;
+    assert!(met.mosaics > cells / 20);
+    assert!(met.underlined > cells / 20);
+    assert!(met.negative > cells / 20);
+    assert!(met.hidden > cells / 50);
     for number in [0, 2, 3, 4, 9] {
         assert!(met.numbers[number] > 0, "number {number} was not met");
     }
 }
 
-/// The marks that a write or a read must leave, worked out from sets of places.
-fn expected_marks(before: &Bench, after: &Bench) -> [bool; 25] {
-    let (old, new) = (&before.processor, &after.processor);
-    let shown =
-        |processor: &Processor| [processor.ror, processor.dor, processor.pat, processor.tgs];
-    if shown(old) != shown(new) {
-        return [true; 25];
-    }
-    let mut marks = old.marks;
-    let changed = (0..16_384).filter(|place| before.memory[*place] != after.memory[*place]);
-    for place in changed {
-        for (row, mark) in marks.iter_mut().enumerate() {
-            *mark |= old.page_refusal().is_none()
-                && old.reading_list(&before.memory, row).contains(&place);
-        }
-    }
-    marks
+/// What the marks of single operations showed in one mode.
+#[derive(Debug, Default)]
+struct Marked {
+    stores: usize,
+    /// Stores that left no row marked.
+    unseen: usize,
+    turns: usize,
+    /// Phase changes that marked some rows and not all.
+    partial_turns: usize,
+    /// Changes of MAT.
+    mats: usize,
 }
 
 #[test]
-fn accesses_mark_the_rows_of_the_lists_and_no_other() {
-    let mut stores = 0;
-    for seed in 100..106 {
+fn operations_mark_the_rows_of_the_lists_and_no_other() {
+    let mut marked = [Marked::default(), Marked::default()];
+    for seed in 100..116 {
         let mut sequence = Sequence::new(seed);
         let mut bench = random_bench(&mut sequence, seed);
-        for _ in 0..800 {
+        for _ in 0..1_000 {
             let operation = sequence.operation(&bench.processor, &bench.memory);
             let before = bench.clone();
-            bench.apply_with(&PageRules, operation);
-            if matches!(operation, Operation::Write { .. } | Operation::Read { .. }) {
-                assert_eq!(bench.processor.marks, expected_marks(&before, &bench));
-                stores += usize::from(bench.memory != before.memory);
+            let number = bench.apply_with(&PageRules, operation).number;
+            if operation == Operation::Draw && number != 0 {
+                assert_eq!(bench.processor.marks, before.processor.marks);
+                continue;
+            }
+            let expected = expected_marks(&before, operation, &bench);
+            assert_eq!(bench.processor.marks, expected, "{operation:?}");
+            if let Some(mode) = before.processor.mode() {
+                count(
+                    &mut marked[usize::from(mode == Mode::Eighty)],
+                    &before,
+                    &bench,
+                );
             }
         }
     }
-    assert!(stores > 300, "only {stores} stores changed a byte");
+    println!("{marked:?}");
+    for marked in &marked {
+        assert!(marked.stores > 300, "{marked:?}");
+        assert!(marked.turns > 30, "{marked:?}");
+        assert!(marked.partial_turns > 10, "{marked:?}");
+        assert!(marked.mats > 5, "{marked:?}");
+    }
+    // In 80 columns most bytes that 40 would take as slices are on no list.
+    let eighty = &marked[1];
+    assert!(eighty.unseen > 5 && eighty.mats > 20, "{eighty:?}");
+}
+
+fn count(marked: &mut Marked, before: &Bench, after: &Bench) {
+    let (old, new) = (&before.processor, &after.processor);
+    let added = (0..25).filter(|row| new.marks[*row] && !old.marks[*row]);
+    let added = added.count();
+    if before.memory != after.memory {
+        marked.stores += 1;
+        marked.unseen += usize::from(new.marks == [false; 25]);
+    }
+    if old.phase != new.phase {
+        marked.turns += 1;
+        marked.partial_turns += usize::from((1..25).contains(&added));
+    }
+    marked.mats += usize::from(old.mat != new.mat);
 }
 
 #[test]
 fn a_fresh_processor_with_the_same_registers_draws_the_same_picture() {
     let mut sequence = Sequence::new(77);
     let mut bench = random_bench(&mut sequence, 77);
-    let mut compared = 0;
-    while compared < 60 {
+    let mut compared = [0; 2];
+    while compared.iter().any(|times| *times < 40) {
         let operation = sequence.operation(&bench.processor, &bench.memory);
         let answer = bench.apply_with(&PageRules, operation);
         if operation == Operation::Draw && answer.number == 0 {
@@ -178,7 +294,7 @@ fn a_fresh_processor_with_the_same_registers_draws_the_same_picture() {
             other.picture.fill(0xEE);
             assert_eq!(other.draw().value, 25);
             assert_eq!(other.picture, bench.picture);
-            compared += 1;
+            compared[usize::from(bench.picture.len() == 60_000)] += 1;
         }
     }
 }

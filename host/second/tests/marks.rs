@@ -1,5 +1,5 @@
 //! The marks: what a store, a register and a phase mark, row by row, and the reading lists behind
-//! them.
+//! them. What is particular to 80 columns has a file of its own.
 
 use std::collections::BTreeSet;
 
@@ -9,7 +9,7 @@ use second::page::screen_y;
 use second::pointer::Pointer;
 use second::random::Random;
 use second::sequence::Sequence;
-use second::Processor;
+use second::{Mode, Processor};
 
 /// Stores a cell in a row and column of the screen, in block 0 and by the present origin.
 fn show(bench: &mut Bench, row: usize, column: usize, c: u8, b: u8, a: u8) {
@@ -291,10 +291,13 @@ fn the_list_takes_slices_and_rows_above() {
     assert_eq!(list, expected);
 }
 
-/// A random drawable state over a random memory.
+/// A random drawable state over a random memory, in either mode.
 fn random_state(random: &mut Random) -> (Processor, Vec<u8>, Vec<u8>) {
     let memory = Sequence::new(random.number()).memory();
+    let mode = random.choice(&[Mode::Forty, Mode::Eighty]);
     let mut processor = Processor::power_up();
+    processor.tgs = mode.tgs();
+    processor.mat = random.byte();
     processor.pat = random.byte() % 0x80;
     processor.dor = random.byte();
     processor.ror = random.byte() / 32 * 32 + 8 + random.below(24) as u8;
@@ -318,9 +321,10 @@ fn random_place(random: &mut Random, lists: &[BTreeSet<usize>]) -> usize {
 #[test]
 fn every_row_that_a_byte_changes_has_it_on_its_list() {
     let mut random = Random::new(40);
-    let mut changed_rows = 0;
-    for _ in 0..60 {
+    let mut changed_rows = [0; 2];
+    for _ in 0..120 {
         let (processor, mut memory, rom) = random_state(&mut random);
+        let is_eighty = processor.mode() == Some(Mode::Eighty);
         let mut before = processor.fresh(&memory, &rom);
         for _ in 0..10 {
             let lists: Vec<_> = (0..25)
@@ -329,17 +333,22 @@ fn every_row_that_a_byte_changes_has_it_on_its_list() {
             let place = random_place(&mut random, &lists);
             memory[place] ^= 1 << random.below(8);
             let after = processor.fresh(&memory, &rom);
+            let length = after.len() / 25;
             for row in 0..25 {
-                let bytes = 1600 * row..1600 * (row + 1);
+                let bytes = length * row..length * (row + 1);
                 if before[bytes.clone()] != after[bytes] {
-                    changed_rows += 1;
+                    changed_rows[usize::from(is_eighty)] += 1;
                     assert!(lists[row].contains(&place), "row {row}, place {place}");
                 }
             }
             before = after;
         }
     }
-    assert!(changed_rows > 400, "only {changed_rows} rows changed");
+    let enough = changed_rows.iter().all(|rows| *rows > 300);
+    assert!(
+        enough,
+        "rows changed in 40 and 80 columns: {changed_rows:?}"
+    );
 }
 
 #[test]

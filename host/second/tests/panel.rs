@@ -55,3 +55,13 @@ fn a_page_of_another_format_is_not_drawn() {
         "0 7 0\n00 00 00 00 00 00 00 00\n"
     );
 }
+
+#[test]
+fn a_page_of_80_columns_gets_6_since_the_picture_has_the_length_of_40() {
+    let tgs = [0x21, 0xC0, 0x28, 0x81];
+    assert_eq!(panel(&tgs), "0 6 0\n00 00 00 00 00 00 00 00\n");
+    assert_eq!(
+        panel(&example_and(&tgs)),
+        "0 6 0\n00 00 00 00 00 00 00 00\n"
+    );
+}

@@ -1,5 +1,7 @@
 //! Pixels worked out by hand from the page's sentences.
 
+mod flash;
+
 use second::bench::Bench;
 use second::cell::Cell;
 use second::pointer::Pointer;
@@ -180,19 +182,7 @@ fn flash_needs_pat_6_and_a_phase_that_differs_from_negative() {
     show(&mut bench, 1, 1, 1, 0x00, 0x9C);
     let shown = [1, 1, 1, 1, 4, 4, 4, 4];
     let inverted = [4, 4, 4, 4, 1, 1, 1, 1];
-    for phase in [0, 1] {
-        bench.indirect(3, 0x3F);
-        bench.turn(phase);
-        bench.draw();
-        assert!(all_lines_are(&bench, 1, 0, shown));
-        assert!(all_lines_are(&bench, 1, 1, inverted));
-        bench.indirect(3, 0x40);
-        bench.draw();
-        let expected = if phase == 0 { shown } else { [4; 8] };
-        assert!(all_lines_are(&bench, 1, 0, expected));
-        let expected = if phase == 0 { [1; 8] } else { inverted };
-        assert!(all_lines_are(&bench, 1, 1, expected));
-    }
+    flash::follows_the_phase(&mut bench, shown, inverted, all_lines_are);
 }
 
 #[test]

@@ -2,6 +2,7 @@
 
 use second::bench::Bench;
 use second::processor::{Answer, Processor};
+use second::Mode;
 
 /// A state with a different value in each field, so that a change of any field is seen.
 fn state(command: u8) -> Processor {
@@ -32,25 +33,38 @@ fn bench(command: u8) -> Bench {
     }
 }
 
-/// The bytes that reading 5 says are refused, written out.
+/// The same in a mode, with a picture of its length.
+fn bench_of(mode: Mode) -> Bench {
+    let mut bench = bench(0x30);
+    bench.processor.tgs += mode.tgs();
+    bench.picture.resize(mode.picture(), 0x5A);
+    bench
+}
+
+const MODES: [Mode; 2] = [Mode::Forty, Mode::Eighty];
+
+/// The bytes that are refused, written out: KRL's four are no longer among them.
 fn refused_bytes() -> Vec<u8> {
     let mut bytes: Vec<u8> = Vec::new();
     bytes.extend(0x02..=0x07);
     bytes.extend(0x0A..=0x2F);
     bytes.extend([0x32, 0x33, 0x36, 0x37, 0x3A, 0x3B, 0x3E, 0x3F]);
-    bytes.extend(0x40..=0x80);
+    bytes.extend(0x40..=0x4F);
+    bytes.extend(0x52..=0x57);
+    bytes.extend(0x5A..=0x80);
     bytes.extend([0x85, 0x86, 0x88, 0x8D, 0x8E]);
     bytes.extend(0x92..=0xFF);
     bytes
 }
 
 const KRF: [u8; 4] = [0x00, 0x01, 0x08, 0x09];
+const KRL: [u8; 4] = [0x50, 0x51, 0x58, 0x59];
 const OCT_MAIN: [u8; 4] = [0x30, 0x31, 0x38, 0x39];
 const OCT_AUXILIARY: [u8; 4] = [0x34, 0x35, 0x3C, 0x3D];
 
 #[test]
 fn every_command_byte_is_classified() {
-    assert_eq!(refused_bytes().len() + 24, 256);
+    assert_eq!(refused_bytes().len() + 28, 256);
     for command in 0..=255 {
         let expected = if refused_bytes().contains(&command) {
             3
@@ -69,7 +83,7 @@ fn every_command_byte_is_classified() {
 
 /// The number that a command gets when the main, the auxiliary, or both pointers are not legal.
 fn expected_with_pointers(command: u8, main_legal: bool, auxiliary_legal: bool) -> u8 {
-    let main = KRF.contains(&command) || OCT_MAIN.contains(&command);
+    let main = [KRF, KRL, OCT_MAIN].concat().contains(&command);
     let auxiliary = OCT_AUXILIARY.contains(&command);
     if refused_bytes().contains(&command) {
         3
@@ -117,11 +131,14 @@ fn the_edges_of_a_legal_pointer() {
 
 #[test]
 fn after_3_or_4_the_register_access_has_happened_and_nothing_else() {
-    // 05 is not listed; KRF and OCT with increment have X = 40.
+    // 05 and 52 are not listed; KRF, KRL and OCT with increment have X = 40.
     for (command, number) in [
         (0x05, 3),
+        (0x52, 3),
         (0x01, 4),
         (0x09, 4),
+        (0x51, 4),
+        (0x59, 4),
         (0x31, 4),
         (0x35, 4),
         (0x3D, 4),
@@ -234,73 +251,106 @@ fn refusal_1_for_every_wrong_length_of_memory() {
 }
 
 #[test]
-fn refusal_5_and_6_for_every_wrong_length() {
-    for length in [0, 1, 6_399, 6_401] {
-        let mut start = bench(0x30);
-        start.rom.resize(length, 0);
-        let mut tried = start.clone();
-        let answer = tried.draw();
-        assert_eq!((answer.number, answer.value), (5, 0));
-        assert_eq!(tried, start);
-    }
-    for length in [0, 1, 39_999, 40_001] {
-        let mut start = bench(0x30);
-        start.picture.resize(length, 0x5A);
-        let mut tried = start.clone();
-        let answer = tried.draw();
-        assert_eq!((answer.number, answer.value), (6, 0));
-        assert_eq!(tried, start);
+fn refusal_5_for_every_wrong_length() {
+    for mode in MODES {
+        for length in [0, 1, 6_399, 6_401] {
+            let mut start = bench_of(mode);
+            start.rom.resize(length, 0);
+            let mut tried = start.clone();
+            let answer = tried.draw();
+            assert_eq!((answer.number, answer.value), (5, 0));
+            assert_eq!(tried, start);
+        }
     }
 }
 
 #[test]
-fn refusals_7_and_8_for_every_value() {
+fn refusal_6_for_every_length_but_that_of_the_mode() {
+    for mode in MODES {
+        for length in [0, 1, 39_999, 40_000, 40_001, 59_999, 60_000, 60_001] {
+            let mut start = bench_of(mode);
+            start.picture.resize(length, 0x5A);
+            let mut tried = start.clone();
+            let answer = tried.draw();
+            if length == mode.picture() {
+                assert_eq!((answer.number, answer.value), (0, 4));
+            } else {
+                assert_eq!((answer.number, answer.value), (6, 0));
+                assert_eq!(tried, start);
+            }
+        }
+    }
+}
+
+/// A draw with a picture of the length that goes with TGS, where it names a mode.
+fn number_of_draw(mut bench: Bench) -> u8 {
+    bench.fit_picture(0x5A);
+    bench.draw().number
+}
+
+#[test]
+fn refusal_7_for_every_tgs() {
     for value in 0..=255u8 {
         let mut tgs = bench(0x30);
         tgs.processor.tgs = value;
-        assert_eq!(tgs.draw().number, if value & 0xE0 != 0 { 7 } else { 0 });
-        let mut pat = bench(0x30);
-        pat.processor.pat = value;
-        assert_eq!(pat.draw().number, if value & 0x80 != 0 { 7 } else { 0 });
-        let mut ror = bench(0x30);
-        ror.processor.ror = value;
-        assert_eq!(ror.draw().number, if value & 0x1F < 8 { 8 } else { 0 });
+        let expected = match value & 0xE0 {
+            0x00 | 0xC0 => 0,
+            _ => 7,
+        };
+        assert_eq!(number_of_draw(tgs), expected, "TGS {value:02X}");
+    }
+}
+
+#[test]
+fn refusals_7_and_8_for_every_pat_and_ror_in_both_modes() {
+    for mode in MODES {
+        for value in 0..=255u8 {
+            let mut pat = bench_of(mode);
+            pat.processor.pat = value;
+            let expected = if value & 0x80 != 0 { 7 } else { 0 };
+            assert_eq!(number_of_draw(pat), expected);
+            let mut ror = bench_of(mode);
+            ror.processor.ror = value;
+            let expected = if value & 0x1F < 8 { 8 } else { 0 };
+            assert_eq!(number_of_draw(ror), expected);
+        }
+    }
+}
+
+/// Makes what the order of the checks counts from 0 wrong.
+fn spoil(bench: &mut Bench, check: usize) {
+    match check {
+        0 => bench.memory.truncate(16_383),
+        1 => bench.rom.truncate(6_399),
+        2 => bench.processor.tgs ^= 0x40,
+        3 => bench.processor.tgs |= 0x20,
+        4 => bench.processor.pat |= 0x80,
+        5 => bench.picture.truncate(39_999),
+        _ => bench.processor.ror = 0x67,
     }
 }
 
 #[test]
 fn the_order_of_the_checks_of_a_draw() {
-    for wrong in 0..64u8 {
-        let is = |bit: u8| wrong >> bit & 1 == 1;
-        let mut start = bench(0x30);
-        if is(0) {
-            start.memory.pop();
-        }
-        if is(1) {
-            start.rom.pop();
-        }
-        if is(2) {
-            start.picture.pop();
-        }
-        if is(3) {
-            start.processor.tgs |= 0x40;
-        }
-        if is(4) {
-            start.processor.pat |= 0x80;
-        }
-        if is(5) {
-            start.processor.ror = 0x67;
-        }
-        let numbers = [1, 5, 6, 7, 7, 8];
-        let expected = (0..6).find(|bit| is(*bit)).map(|bit| numbers[bit as usize]);
-        let mut tried = start.clone();
-        let answer = tried.draw();
-        match expected {
-            Some(number) => {
-                assert_eq!(answer, Answer { number, value: 0 });
-                assert_eq!(tried, start);
+    // 6 stands after 7 and before 8.
+    let numbers = [1, 5, 7, 7, 7, 6, 8];
+    for mode in MODES {
+        for wrong in 0..128usize {
+            let is_wrong = |check: &usize| wrong >> check & 1 == 1;
+            let mut start = bench_of(mode);
+            for check in (0..7).filter(is_wrong) {
+                spoil(&mut start, check);
             }
-            None => assert_eq!((answer.number, answer.value), (0, 4)),
+            let mut tried = start.clone();
+            let answer = tried.draw();
+            match (0..7).find(is_wrong) {
+                Some(first) => {
+                    let number = numbers[first];
+                    assert_eq!(answer, Answer { number, value: 0 });
+                    assert_eq!(tried, start);
+                }
+                None => assert_eq!((answer.number, answer.value), (0, 4)),
+            }
         }
     }
 }

@@ -1,24 +1,12 @@
 //! Round trips: codes by KRF and bytes by OCT come back as they were stored, and nothing else
 //! moves.
 
+mod legal;
+
+use legal::{legal_pointer, random_bench};
 use second::bench::Bench;
 use second::pointer::Pointer;
 use second::random::Random;
-
-fn legal_pointer(random: &mut Random) -> Pointer {
-    let y = random.below(25);
-    Pointer {
-        x: random.below(40),
-        y: if y == 0 { 0 } else { 7 + y },
-        z: random.below(16),
-    }
-}
-
-fn random_bench(random: &mut Random) -> Bench {
-    let mut bench = Bench::power_up();
-    bench.memory = random.bytes(16_384);
-    bench
-}
 
 /// The place of byte 0, 1 or 2 of a code, worked out here by the district's four blocks.
 fn code_place(pointer: Pointer, byte: usize) -> usize {

@@ -1,77 +1,193 @@
 //! Each planted slip is seen by random sequences, and the right rules never are.
 
+mod expected;
+
+use expected::expected_marks;
+use second::address::place;
 use second::bench::Bench;
-use second::marks::{MarkRules, PageRules};
 use second::operation::Operation;
+use second::pointer::{Pointer, Which};
+use second::processor::Answer;
 use second::random::Random;
+use second::rules::PageRules;
+use second::rules::Rules;
 use second::sequence::Sequence;
 use second::Slip;
 
 const SEEDS: u64 = 40;
 const OPERATIONS: usize = 4_000;
 
-/// The number of operations until a kept picture differs from the fresh one, if it ever does.
-fn caught<R: MarkRules>(rules: &R, seed: u64) -> Option<usize> {
+/// One operation of a sequence, with the bench before and after it.
+struct Step<'a> {
+    before: &'a Bench,
+    operation: Operation,
+    answer: Answer,
+    after: &'a Bench,
+}
+
+/// Something that the right rules never show.
+type Wrong = fn(&Step) -> bool;
+
+/// A kept picture that differs from the fresh one.
+fn stale(step: &Step) -> bool {
+    let Bench {
+        processor,
+        memory,
+        rom,
+        picture,
+    } = step.after;
+    let is_drawn = step.operation == Operation::Draw && step.answer.number == 0;
+    is_drawn && processor.fresh(memory, rom) != *picture
+}
+
+/// Other marks than those of the lists: also too many, which no picture shows.
+fn wrongly_marked(step: &Step) -> bool {
+    let is_refused_draw = step.operation == Operation::Draw && step.answer.number != 0;
+    let expected = expected_marks(step.before, step.operation, step.after);
+    !is_refused_draw && step.after.processor.marks != expected
+}
+
+/// Another code than was written at the position of KRL, or any change at the other position of the
+/// same X.
+fn wrongly_packed(step: &Step) -> bool {
+    let registers = &step.after.processor.registers;
+    let executed = matches!(step.operation, Operation::Write { address: 0x29, .. });
+    if !executed || step.answer.number != 0 || ![0x50, 0x51].contains(&registers[0]) {
+        return false;
+    }
+    // The pointer from before the increment; the write was of R1.
+    let pointer = Pointer::of(&step.before.processor.registers, Which::Main);
+    let twelve_bits = |bench: &Bench, odd: bool| {
+        let even = pointer.z - pointer.z % 2;
+        let c = bench.memory[place(pointer.x, pointer.y, even + usize::from(odd))];
+        let third = even / 4 * 4 + (even + 2) % 4;
+        let attributes = bench.memory[place(pointer.x, pointer.y, third)];
+        (
+            c,
+            if odd {
+                attributes % 16
+            } else {
+                attributes / 16
+            },
+        )
+    };
+    let odd = pointer.z % 2 == 1;
+    let written = twelve_bits(step.after, odd);
+    let half = if odd {
+        registers[3] % 16
+    } else {
+        registers[3] / 16
+    };
+    written != (registers[1], half)
+        || twelve_bits(step.after, !odd) != twelve_bits(step.before, !odd)
+}
+
+/// The number of operations until something wrong is seen, if it ever is.
+fn caught<R: Rules>(rules: &R, wrong: Wrong, seed: u64) -> Option<usize> {
     let mut sequence = Sequence::new(seed);
     let mut bench = Bench::power_up();
     bench.memory = sequence.memory();
     bench.rom = Random::new(seed).bytes(6_400);
     for count in 1..=OPERATIONS {
         let operation = sequence.operation(&bench.processor, &bench.memory);
+        let before = bench.clone();
         let answer = bench.apply_with(rules, operation);
-        if operation == Operation::Draw && answer.number == 0 {
-            let fresh = bench.processor.fresh(&bench.memory, &bench.rom);
-            if fresh != bench.picture {
-                return Some(count);
-            }
+        let step = Step {
+            before: &before,
+            operation,
+            answer,
+            after: &bench,
+        };
+        if wrong(&step) {
+            return Some(count);
         }
     }
     None
 }
 
-fn is_caught(slip: Slip) {
-    let found = (0..SEEDS).find_map(|seed| caught(&slip, seed).map(|count| (seed, count)));
+fn is_caught(slip: Slip, wrong: Wrong) {
+    let found = (0..SEEDS).find_map(|seed| caught(&slip, wrong, seed).map(|count| (seed, count)));
     let (seed, count) = found.unwrap_or_else(|| panic!("{slip:?} was not caught"));
     println!("{slip:?}: seed {seed}, operation {count}");
 }
 
 #[test]
 fn a_forgotten_user_slice_is_caught() {
-    is_caught(Slip::UserSliceForgotten);
+    is_caught(Slip::UserSliceForgotten, stale);
 }
 
 #[test]
 fn a_forgotten_row_above_is_caught() {
-    is_caught(Slip::RowAboveForgotten);
+    is_caught(Slip::RowAboveForgotten, stale);
 }
 
 #[test]
 fn a_chain_that_stops_after_one_row_is_caught() {
-    is_caught(Slip::ChainStopsAfterOneRow);
+    is_caught(Slip::ChainStopsAfterOneRow, stale);
 }
 
 #[test]
 fn a_forgotten_phase_is_caught() {
-    is_caught(Slip::PhaseForgotten);
+    is_caught(Slip::PhaseForgotten, stale);
 }
 
 #[test]
 fn a_forgotten_dor_is_caught() {
-    is_caught(Slip::DorForgotten);
+    is_caught(Slip::DorForgotten, stale);
 }
 
 #[test]
 fn a_forgotten_quadrichrome_slice_is_caught() {
-    is_caught(Slip::QuadrichromeSliceForgotten);
+    is_caught(Slip::QuadrichromeSliceForgotten, stale);
 }
 
 #[test]
 fn a_third_block_from_the_next_district_is_caught() {
-    is_caught(Slip::ThirdBlockFromNextDistrict);
+    is_caught(Slip::ThirdBlockFromNextDistrict, stale);
 }
 
 #[test]
-fn all_seven_are_planted_and_differ() {
+fn a_forgotten_mat_is_caught() {
+    is_caught(Slip::MatForgotten, stale);
+}
+
+#[test]
+fn a_mat_that_marks_40_columns_is_caught() {
+    is_caught(Slip::MatMarksForty, wrongly_marked);
+}
+
+#[test]
+fn a_forgotten_mode_change_is_caught() {
+    is_caught(Slip::ModeForgotten, stale);
+}
+
+#[test]
+fn a_flash_forgotten_in_80_columns_is_caught() {
+    is_caught(Slip::FlashForgottenInEighty, stale);
+}
+
+#[test]
+fn mosaics_that_flash_are_caught() {
+    is_caught(Slip::MosaicsFlash, wrongly_marked);
+}
+
+#[test]
+fn lists_of_40_columns_in_80_are_caught() {
+    is_caught(Slip::EightyReadsAsForty, wrongly_marked);
+}
+
+#[test]
+fn a_whole_byte_of_attributes_stored_is_caught() {
+    is_caught(Slip::WholeAttributesStored, wrongly_packed);
+}
+
+#[test]
+fn a_nibble_from_the_other_half_is_caught() {
+    is_caught(Slip::NibbleFromOtherHalf, wrongly_packed);
+}
+
+#[test]
+fn the_planted_slips_differ() {
     for (at, slip) in Slip::PLANTED.iter().enumerate() {
         assert_ne!(*slip, Slip::None);
         assert!(!Slip::PLANTED[..at].contains(slip));
@@ -80,8 +196,10 @@ fn all_seven_are_planted_and_differ() {
 
 #[test]
 fn the_right_rules_are_not_caught() {
+    let wrong: Wrong = |step| stale(step) || wrongly_packed(step);
     for seed in 0..4 {
-        assert_eq!(caught(&PageRules, seed), None);
-        assert_eq!(caught(&Slip::None, seed), None);
+        assert_eq!(caught(&PageRules, wrong, seed), None);
+        assert_eq!(caught(&Slip::None, wrong, seed), None);
     }
+    // That their marks are those of the lists is seen over more sequences where pictures are kept.
 }

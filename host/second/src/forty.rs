@@ -1,0 +1,61 @@
+//! The eight by ten pixels of a cell of 40 columns.
+
+use crate::address::{rom_place, slice_place};
+use crate::cell::{Cell, Source};
+use crate::colour::Colour;
+use crate::half::{shows_lower, shows_right};
+use crate::picture::View;
+use crate::{bichrome, quadrichrome, LINES};
+
+/// The pixels of one cell, line by line.
+pub type Window = [[Colour; 8]; LINES];
+
+impl View<'_> {
+    /// The value of a slice; "If that Y is 1..7 the slice is 0 and no byte is read."
+    pub fn slice(&self, cell: Cell, slice: usize) -> u8 {
+        match cell.source(self.page.dor) {
+            Source::Rom(set) => self.rom[rom_place(set, cell.c, slice)],
+            Source::Block(block) => match slice_place(cell.c, slice, block) {
+                Some(place) => self.page.memory[place],
+                None => 0,
+            },
+        }
+    }
+
+    pub fn window(&self, row: usize, column: usize) -> Window {
+        if self.page.cell(row, column).is_quadrichrome() {
+            self.quadrichrome_window(row, column)
+        } else {
+            self.bichrome_window(row, column)
+        }
+    }
+
+    fn bichrome_window(&self, row: usize, column: usize) -> Window {
+        let cell = self.page.cell(row, column);
+        let slices = bichrome::slices_of_lines(cell, shows_lower(&self.page, row, column));
+        let right = shows_right(&self.page, row, column);
+        let mut window = [[Colour::Black; 8]; LINES];
+        for line in 0..LINES {
+            let slice = slices[line];
+            let value = self.slice(cell, slice);
+            for pixel in 0..8 {
+                let bit = bichrome::bit_of_pixel(cell, right, pixel);
+                window[line][pixel] =
+                    bichrome::colour(cell, slice, value, bit, self.pat, self.phase);
+            }
+        }
+        window
+    }
+
+    fn quadrichrome_window(&self, row: usize, column: usize) -> Window {
+        let cell = self.page.cell(row, column);
+        let mut window = [[Colour::Black; 8]; LINES];
+        for line in 0..LINES {
+            let value = self.slice(cell, quadrichrome::slice_of_line(cell, line));
+            for pixel in 0..8 {
+                window[line][pixel] = quadrichrome::colour(cell, value, pixel);
+            }
+        }
+        window
+    }
+}

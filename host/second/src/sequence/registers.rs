@@ -1,0 +1,57 @@
+//! Plans that change an indirect register.
+
+use crate::mode::Mode;
+use crate::processor::Processor;
+
+use super::Sequence;
+
+impl Sequence {
+    /// Makes the page drawable again, in either mode.
+    pub(super) fn mend(&mut self) {
+        let mode = self.random.choice(&[Mode::Forty, Mode::Eighty]);
+        let (tgs, pat, ror) = (self.tgs(mode), self.random.byte(), self.origin());
+        self.indirect(1, tgs);
+        self.indirect(3, pat % 0x80);
+        self.indirect(7, ror);
+    }
+
+    /// The other mode, or any where there is none.
+    pub(super) fn change_mode(&mut self, processor: &Processor) {
+        let any = self.random.choice(&[Mode::Forty, Mode::Eighty]);
+        let mode = processor.mode().map_or(any, Mode::other);
+        let tgs = self.tgs(mode);
+        self.indirect(1, tgs);
+    }
+
+    /// A value for TGS that names a mode and is not refused.
+    fn tgs(&mut self, mode: Mode) -> u8 {
+        mode.tgs() + self.random.byte() % 0x20
+    }
+
+    /// One indirect register: a new value, the present one with one bit changed, or the present
+    /// one.
+    pub(super) fn one_register(&mut self, processor: &Processor) {
+        let (r, present) = self.random.choice(&[
+            (1, processor.tgs),
+            (2, processor.mat),
+            (2, processor.mat),
+            (3, processor.pat),
+            (4, processor.dor),
+            (4, processor.dor),
+            (7, processor.ror),
+            (7, processor.ror),
+        ]);
+        let value = match self.random.below(8) {
+            0 => self.random.byte(),
+            1 => present,
+            2..=4 => present ^ (1 << self.random.below(8)),
+            _ => match r {
+                1 => self.tgs(processor.mode().unwrap_or(Mode::Forty)),
+                3 => self.random.byte() % 0x80,
+                7 => self.origin(),
+                _ => self.random.byte(),
+            },
+        };
+        self.indirect(r, value);
+    }
+}

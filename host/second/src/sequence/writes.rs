@@ -1,0 +1,114 @@
+//! The writes that plans are made of.
+
+use crate::address::code_block;
+use crate::cell::Cell;
+use crate::operation::Operation;
+use crate::page::{first_block, screen_y};
+use crate::pointer::Pointer;
+use crate::processor::Processor;
+
+use super::Sequence;
+
+impl Sequence {
+    pub(super) fn write(&mut self, address: u8, value: u8) {
+        self.waiting.push_back(Operation::Write { address, value });
+    }
+
+    pub(super) fn indirect(&mut self, r: u8, value: u8) {
+        self.write(0x21, value);
+        self.write(0x28, 0x80 + r);
+    }
+
+    /// Bit 6 of R6, which is the auxiliary pointer's, is left to chance.
+    fn point_at(&mut self, pointer: Pointer) {
+        let (down, across) = pointer.main_registers();
+        let other = if self.random.one_in(2) { 0x40 } else { 0 };
+        self.write(0x26, down + other);
+        self.write(0x27, across);
+    }
+
+    pub(super) fn point_at_cell(&mut self, processor: &Processor, row: usize, column: usize) {
+        self.point_at(Pointer {
+            x: column,
+            y: screen_y(processor.ror, row),
+            z: first_block(processor.ror),
+        });
+    }
+
+    /// At the even positions the pointer is that of a cell of 40 columns.
+    pub(super) fn point_at_position(&mut self, processor: &Processor, row: usize, position: usize) {
+        self.point_at(Pointer {
+            x: position / 2,
+            y: screen_y(processor.ror, row),
+            z: first_block(processor.ror) + position % 2,
+        });
+    }
+
+    pub(super) fn store_cell(
+        &mut self,
+        processor: &Processor,
+        row: usize,
+        column: usize,
+        cell: Cell,
+    ) {
+        self.point_at_cell(processor, row, column);
+        self.write(0x22, cell.b);
+        self.write(0x23, cell.a);
+        let command = self.random.choice(&[0x00, 0x01]);
+        self.write(0x20, command);
+        self.write(0x29, cell.c);
+    }
+
+    /// KRL of a C byte and an R3 at a position.
+    pub(super) fn store_code(
+        &mut self,
+        processor: &Processor,
+        row: usize,
+        position: usize,
+        c: u8,
+        r3: u8,
+    ) {
+        self.point_at_position(processor, row, position);
+        self.write(0x23, r3);
+        let command = self.random.choice(&[0x50, 0x51]);
+        self.write(0x20, command);
+        self.write(0x29, c);
+    }
+
+    /// One bit of a byte of the shown page, so that a cell changes in one respect alone.
+    pub(super) fn one_code_bit(&mut self, processor: &Processor, memory: &[u8]) {
+        let (row, column, byte) = (self.row(), self.column(), self.random.below(3));
+        let pointer = Pointer {
+            x: column,
+            y: screen_y(processor.ror, row),
+            z: code_block(first_block(processor.ror), byte),
+        };
+        let value = memory[pointer.place()] ^ (1 << self.random.below(8));
+        let auxiliary = self.random.one_in(2);
+        self.store_byte(processor, pointer, auxiliary, value);
+    }
+
+    pub(super) fn store_byte(
+        &mut self,
+        processor: &Processor,
+        pointer: Pointer,
+        auxiliary: bool,
+        value: u8,
+    ) {
+        let increment = self.random.choice(&[0, 1]);
+        if auxiliary {
+            let (down, across, z3) = pointer.auxiliary_registers();
+            self.write(0x24, down);
+            self.write(0x25, across);
+            let keep = processor.registers[6] & 0xBF;
+            self.write(0x26, keep + if z3 { 0x40 } else { 0 });
+            self.write(0x20, 0x34 + increment);
+        } else {
+            let (down, across) = pointer.main_registers();
+            self.write(0x26, down);
+            self.write(0x27, across);
+            self.write(0x20, 0x30 + increment);
+        }
+        self.write(0x29, value);
+    }
+}
