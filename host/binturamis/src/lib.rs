@@ -1,5 +1,5 @@
 //! Binturamis takes the place of the EF9345 display processor: a host writes and reads the eight
-//! registers, and the library keeps the private memory and draws the page of 25 rows and 40
+//! registers, and the library keeps the private memory and draws the page of 25 rows and 40 or 80
 //! columns, only the rows that have changed.
 //!
 //! [`Panel`] owns a processor with its memory, its ROM and its picture. [`write()`], [`read`],
@@ -40,16 +40,18 @@ mod redrawn;
 mod refusal;
 mod size;
 mod state;
+mod width;
 
 /// The version of this package, which is the library's.
 pub const VERSION: &str = env!("CARGO_PKG_VERSION");
 
 pub use operation::{draw, read, turn, write, Processor};
 pub use panel::Panel;
-pub use redrawn::{row_of, Redrawn};
+pub use redrawn::Redrawn;
 pub use refusal::{Refusal, RefusedRead};
 pub use size::{
-    LINE_BYTES, MEMORY_BYTES, PICTURE_BYTES, PROCESSOR_BYTES, ROM_BYTES, ROWS, ROW_BYTES,
-    STATE_BYTES,
+    COLUMNS, COLUMNS_80, LINE_BYTES, LINE_BYTES_80, MEMORY_BYTES, PICTURE_BYTES, PICTURE_BYTES_80,
+    PROCESSOR_BYTES, ROM_BYTES, ROWS, ROW_BYTES, ROW_BYTES_80, STATE_BYTES,
 };
 pub use state::State;
+pub use width::{Width, TGS_80};

@@ -115,7 +115,10 @@ pub fn turn(processor: &mut Processor, memory: &[u8], phase: u8) -> Result<(), R
 }
 
 /// Draws the marked rows into the picture, touches no other byte of it, and clears the marks.
-/// Refusals: 1, 5, 6, 7, 8.
+/// Refusals: 1, 5, 7, 6, 8.
+///
+/// Another picture than before may be lent whenever every row is marked, as after a change of TGS.
+/// [`State::width`] says how long it must be.
 ///
 /// ```
 /// use binturamis::{Processor, Refusal, MEMORY_BYTES, PICTURE_BYTES, ROM_BYTES};
@@ -141,8 +144,8 @@ pub fn draw(
     rom: &[u8],
     picture: &mut [u8],
 ) -> Result<Redrawn, Refusal> {
-    let marks = processor.state().marks;
+    let before = processor.state();
     let answered = engine::draw(processor, memory, rom, picture);
     let count = Answer::of(answered).accepted()?;
-    Ok(Redrawn::new(count, marks))
+    Ok(Redrawn::new(count, &before))
 }

@@ -3,10 +3,11 @@
 use std::fmt;
 
 use crate::operation::{self, Processor};
-use crate::redrawn::{row_of, Redrawn};
+use crate::redrawn::Redrawn;
 use crate::refusal::{Refusal, RefusedRead};
-use crate::size::{MEMORY_BYTES, PICTURE_BYTES, ROM_BYTES};
+use crate::size::{MEMORY_BYTES, ROM_BYTES};
 use crate::state::State;
+use crate::width::Width;
 
 /// A processor with what it needs, so that the premises of the kept picture hold by themselves:
 /// nobody else writes the memory or the picture, and the ROM stays.
@@ -38,17 +39,20 @@ pub struct Panel {
     processor: Processor,
     memory: Box<[u8; MEMORY_BYTES]>,
     rom: Box<[u8; ROM_BYTES]>,
-    picture: Box<[u8; PICTURE_BYTES]>,
+    /// Of the last accepted draw, as is its width.
+    picture: Vec<u8>,
+    width: Width,
 }
 
 impl Panel {
-    /// Power-up with a character ROM, zero memory and a zero picture.
+    /// Power-up with a character ROM, zero memory and a zero picture of 40 columns.
     pub fn new(rom: [u8; ROM_BYTES]) -> Panel {
         Panel {
             processor: Processor::power_up(),
             memory: Box::new([0; MEMORY_BYTES]),
             rom: Box::new(rom),
-            picture: Box::new([0; PICTURE_BYTES]),
+            picture: vec![0; Width::Forty.picture_bytes()],
+            width: Width::Forty,
         }
     }
 
@@ -70,27 +74,40 @@ impl Panel {
     }
 
     /// Draws the marked rows into the panel's picture. See [`draw`](crate::draw).
+    ///
+    /// Where TGS asks for the other width than the last accepted draw had, a picture of that width
+    /// takes the place of the one before. Every row is marked then, so all of it is drawn.
     pub fn draw(&mut self) -> Result<Redrawn, Refusal> {
-        operation::draw(
-            &mut self.processor,
-            &self.memory[..],
-            &self.rom[..],
-            &mut self.picture[..],
-        )
+        let width = self.state().width();
+        let (memory, rom) = (&self.memory[..], &self.rom[..]);
+        if width == self.width {
+            return operation::draw(&mut self.processor, memory, rom, &mut self.picture);
+        }
+        // A refused draw leaves the picture that there was.
+        let mut other = vec![0; width.picture_bytes()];
+        let redrawn = operation::draw(&mut self.processor, memory, rom, &mut other)?;
+        (self.picture, self.width) = (other, width);
+        Ok(redrawn)
     }
 
-    /// The picture as the last accepted draw left it.
-    pub fn picture(&self) -> &[u8; PICTURE_BYTES] {
+    /// The picture as the last accepted draw left it, of 40,000 bytes or of 60,000.
+    pub fn picture(&self) -> &[u8] {
         &self.picture
     }
 
-    /// The 1,600 bytes of a row of the picture.
+    /// The width of the picture. It is that of the last accepted draw, and 40 columns before there
+    /// was one; [`State::width`] is that of the next.
+    pub fn width(&self) -> Width {
+        self.width
+    }
+
+    /// The bytes of a row of the picture: 1,600, or 2,400 in 80 columns.
     ///
     /// # Panics
     ///
     /// If there is no such row: they are 0 to 24.
     pub fn row(&self, row: usize) -> &[u8] {
-        row_of(&self.picture, row)
+        self.width.row_of(&self.picture, row)
     }
 
     /// The private memory.
@@ -112,7 +129,7 @@ impl Panel {
     }
 }
 
-/// The state alone: the buffers are 62,784 bytes.
+/// The state alone: the buffers are 62,784 bytes, or 82,784.
 impl fmt::Debug for Panel {
     fn fmt(&self, to: &mut fmt::Formatter) -> fmt::Result {
         to.debug_struct("Panel")

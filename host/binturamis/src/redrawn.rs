@@ -1,7 +1,9 @@
 //! The rows that a draw has redrawn, so that a host can push those rows to its screen and no
 //! others.
 
-use crate::size::{PICTURE_BYTES, ROWS, ROW_BYTES};
+use crate::size::ROWS;
+use crate::state::State;
+use crate::width::Width;
 
 /// The rows of an accepted draw.
 ///
@@ -28,17 +30,27 @@ use crate::size::{PICTURE_BYTES, ROWS, ROW_BYTES};
 pub struct Redrawn {
     count: u8,
     marks: [bool; ROWS],
+    width: Width,
 }
 
 impl Redrawn {
-    /// The number that the draw answered, and the marks before it.
-    pub(crate) fn new(count: u8, marks: [bool; ROWS]) -> Redrawn {
-        Redrawn { count, marks }
+    /// The number that the draw answered, and the state before it.
+    pub(crate) fn new(count: u8, before: &State) -> Redrawn {
+        Redrawn {
+            count,
+            marks: before.marks,
+            width: before.width(),
+        }
     }
 
     /// How many rows: the number that the draw answered.
     pub fn count(&self) -> u8 {
         self.count
+    }
+
+    /// The width of the picture.
+    pub fn width(&self) -> Width {
+        self.width
     }
 
     /// Whether the row was redrawn; none is that there is not.
@@ -51,21 +63,13 @@ impl Redrawn {
         (0..ROWS).filter(|row| self.marks[*row])
     }
 
-    /// The number of each row with its bytes in the picture.
-    pub fn rows_of<'a>(
-        &'a self,
-        picture: &'a [u8; PICTURE_BYTES],
-    ) -> impl Iterator<Item = (usize, &'a [u8])> {
-        self.rows().map(|row| (row, row_of(picture, row)))
+    /// The number of each row with its bytes in the picture: 1,600, or 2,400 in 80 columns.
+    ///
+    /// # Panics
+    ///
+    /// If the picture is not of the width of the draw, and a row was redrawn.
+    pub fn rows_of<'a>(&'a self, picture: &'a [u8]) -> impl Iterator<Item = (usize, &'a [u8])> {
+        self.rows()
+            .map(|row| (row, self.width.row_of(picture, row)))
     }
-}
-
-/// The 1,600 bytes of a row of a picture.
-///
-/// # Panics
-///
-/// If there is no such row: they are 0 to 24.
-pub fn row_of(picture: &[u8; PICTURE_BYTES], row: usize) -> &[u8] {
-    assert!(row < ROWS, "row {row}, where the last is {}", ROWS - 1);
-    &picture[ROW_BYTES * row..ROW_BYTES * (row + 1)]
 }

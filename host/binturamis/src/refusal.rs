@@ -5,7 +5,7 @@ use std::fmt;
 
 /// A refusal, by its number in the rules.
 ///
-/// An access is checked in the order 1, 2, 3, 4, a phase change 1, 9 and a draw 1, 5, 6, 7, 8; the
+/// An access is checked in the order 1, 2, 3, 4, a phase change 1, 9 and a draw 1, 5, 7, 6, 8; the
 /// first that applies is given. After 3 and 4 the register access itself has happened, and nothing
 /// else. After every other refusal nothing at all has changed.
 ///
@@ -31,9 +31,9 @@ pub enum Refusal {
     BadPointer = 4,
     /// ROM is not 6,400 bytes.
     WrongRom = 5,
-    /// Picture is not 40,000 bytes.
+    /// Picture is not 40,000 bytes, or 60,000 in 80 columns.
     WrongPicture = 6,
-    /// TGS bits 7, 6 or 5, or PAT bit 7, not zero.
+    /// TGS bits 7, 6 or 5, or PAT bit 7, not zero; with TGS 7 and 6 both set, TGS 5 or PAT 7.
     NotBuilt = 7,
     /// Origin YOR below 8.
     LowOrigin = 8,
@@ -79,8 +79,10 @@ impl Refusal {
             Refusal::NotListed => "a command to execute is not listed",
             Refusal::BadPointer => "the command's pointer has X above 39 or Y from 1 to 7",
             Refusal::WrongRom => "ROM is not 6,400 bytes",
-            Refusal::WrongPicture => "picture is not 40,000 bytes",
-            Refusal::NotBuilt => "TGS bits 7, 6 or 5, or PAT bit 7, not zero",
+            Refusal::WrongPicture => "picture is not 40,000 bytes, or 60,000 in 80 columns",
+            Refusal::NotBuilt => {
+                "TGS bit 7 or 6 set without the other, or TGS bit 5 or PAT bit 7 set"
+            }
             Refusal::LowOrigin => "origin YOR below 8",
             Refusal::WrongPhase => "phase is not 0 or 1",
         }

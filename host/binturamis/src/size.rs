@@ -1,19 +1,32 @@
-//! The sizes of what is lent, in bytes, and of the picture.
+//! The sizes of what is lent, in bytes, and of the picture in 40 columns and in 80.
 
 /// The bytes of private memory: sixteen blocks of 1,024.
 pub const MEMORY_BYTES: usize = 16_384;
 /// The bytes of the character ROM: five sets of 128 characters of ten slices, in the order G0, G10,
 /// G11, G20, G21.
 pub const ROM_BYTES: usize = 6_400;
-/// The bytes of the picture: 320 by 250 pixels, two a byte, the left one in the low four bits.
-pub const PICTURE_BYTES: usize = ROWS * ROW_BYTES;
-/// The rows of the screen, the service row among them.
-pub const ROWS: usize = 25;
-/// The bytes of a row of the picture: ten lines.
-pub const ROW_BYTES: usize = 10 * LINE_BYTES;
-/// The bytes of one line of the picture.
-pub const LINE_BYTES: usize = 160;
 /// The bytes of a processor.
 pub const PROCESSOR_BYTES: usize = 64;
 /// The bytes in which the state is told.
 pub const STATE_BYTES: usize = 48;
+/// The rows of the screen, the service row among them.
+pub const ROWS: usize = 25;
+
+/// The cells of a row, in 40 columns.
+pub const COLUMNS: usize = 40;
+/// The bytes of the picture in 40 columns: 320 by 250 pixels, two a byte, the left one in the low
+/// four bits.
+pub const PICTURE_BYTES: usize = ROWS * ROW_BYTES;
+/// The bytes of a row of the picture in 40 columns: ten lines.
+pub const ROW_BYTES: usize = 10 * LINE_BYTES;
+/// The bytes of one line of the picture in 40 columns.
+pub const LINE_BYTES: usize = 160;
+
+/// The cells of a row, in 80 columns.
+pub const COLUMNS_80: usize = 80;
+/// The bytes of the picture in 80 columns: 480 by 250 pixels, packed as in 40.
+pub const PICTURE_BYTES_80: usize = ROWS * ROW_BYTES_80;
+/// The bytes of a row of the picture in 80 columns: ten lines.
+pub const ROW_BYTES_80: usize = 10 * LINE_BYTES_80;
+/// The bytes of one line of the picture in 80 columns.
+pub const LINE_BYTES_80: usize = 240;

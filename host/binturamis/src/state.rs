@@ -1,6 +1,7 @@
 //! The state of a processor, told by name.
 
 use crate::size::{ROWS, STATE_BYTES};
+use crate::width::Width;
 
 /// What a processor holds. It is told, not lent: changing it changes nothing.
 ///
@@ -62,5 +63,10 @@ impl State {
             phase: bytes[14],
             marks,
         }
+    }
+
+    /// The width of the page, which says how long a picture a draw asks for.
+    pub fn width(&self) -> Width {
+        Width::of_tgs(self.tgs)
     }
 }

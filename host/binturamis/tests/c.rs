@@ -52,20 +52,32 @@ fn runner(program: &Path) -> Command {
     }
 }
 
-#[test]
-fn the_example_prints_what_is_expected() -> Result<(), String> {
-    let program = Path::new(env!("CARGO_TARGET_TMPDIR")).join("panel");
+/// What a C program over the library prints; one that ends with another number than 0 has failed.
+fn run(source: &Path, name: &str) -> Result<String, String> {
+    let program = Path::new(env!("CARGO_TARGET_TMPDIR")).join(name);
     let mut compile = compiler("c")?;
     compile
         .arg("-std=c11")
         .args(WARNINGS)
         .args(["-static", "-I", LIBRARY])
-        .arg(top().join("examples/panel.c"))
+        .arg(source)
         .arg(Path::new(LIBRARY).join("libbinturamis.a"))
         .arg("-o")
         .arg(&program);
     printed(&mut compile)?;
-    let output = printed(&mut runner(&program))?;
+    printed(&mut runner(&program))
+}
+
+/// The same, of a program that stands here.
+fn run_text(text: &str, name: &str) -> Result<String, String> {
+    let source = Path::new(env!("CARGO_TARGET_TMPDIR")).join(format!("{name}.c"));
+    fs::write(&source, text).map_err(|error| error.to_string())?;
+    run(&source, name)
+}
+
+#[test]
+fn the_example_prints_what_is_expected() -> Result<(), String> {
+    let output = run(&top().join("examples/panel.c"), "panel")?;
     assert_eq!(output, read(top().join("examples/panel.expected"))?);
     let of_the_rules = read(top().join("crates/panel/stdout"))?;
     assert!(output.starts_with(&of_the_rules), "{output}");
@@ -87,19 +99,65 @@ int main(void)
 
 #[test]
 fn an_answer_is_taken_apart() -> Result<(), String> {
-    let room = Path::new(env!("CARGO_TARGET_TMPDIR"));
-    let (source, program) = (room.join("taken_apart.c"), room.join("taken_apart"));
-    fs::write(&source, TAKEN_APART).map_err(|error| error.to_string())?;
-    let mut compile = compiler("c")?;
-    compile
-        .arg("-std=c11")
-        .args(WARNINGS)
-        .args(["-static", "-I", LIBRARY])
-        .arg(&source)
-        .arg("-o")
-        .arg(&program);
-    printed(&mut compile)?;
-    printed(&mut runner(&program))?;
+    run_text(TAKEN_APART, "taken_apart")?;
+    Ok(())
+}
+
+/// A page of 80 columns by the header's names alone: a mosaic in the last position of row 1, red on
+/// blue. The picture of 40 columns is refused before it, and lent once more after it.
+const EIGHTY: &str = r#"
+#include <stdio.h>
+
+#include "binturamis.h"
+
+static binturamis_processor p;
+static uint8_t memory[BINTURAMIS_MEMORY_BYTES], rom[BINTURAMIS_ROM_BYTES];
+static uint8_t forty[BINTURAMIS_PICTURE_BYTES], eighty[BINTURAMIS_80_PICTURE_BYTES];
+
+static void put(uint8_t address, uint8_t value)
+{
+    printf("%u", (unsigned)binturamis_write(&p, memory, sizeof memory, address, value));
+}
+
+static void put_indirect(uint8_t r, uint8_t value)
+{
+    put(BINTURAMIS_R1, value);
+    put(BINTURAMIS_R0 + BINTURAMIS_EXECUTE, BINTURAMIS_IND + r);
+}
+
+static void draw(uint8_t *picture, size_t length)
+{
+    uint32_t answer = binturamis_draw(&p, memory, sizeof memory, rom, sizeof rom, picture, length);
+    printf(" %u %u\n", (unsigned)binturamis_number(answer), (unsigned)binturamis_value(answer));
+}
+
+int main(void)
+{
+    binturamis_power_up(&p);
+    put_indirect(BINTURAMIS_TGS, BINTURAMIS_TGS_80);
+    put_indirect(BINTURAMIS_MAT, BINTURAMIS_BLUE);
+    put_indirect(BINTURAMIS_DOR, BINTURAMIS_RED << 4);
+    put_indirect(BINTURAMIS_ROR, 8);
+    put(BINTURAMIS_R6, 8);
+    put(BINTURAMIS_R7, 0x80 + (BINTURAMIS_80_COLUMNS - 1) / 2);
+    put(BINTURAMIS_R3, 0x11);
+    put(BINTURAMIS_R0, BINTURAMIS_KRL + BINTURAMIS_INCREMENT);
+    put(BINTURAMIS_R1 + BINTURAMIS_EXECUTE, 0x80 + 0x01);
+    draw(forty, sizeof forty);
+    draw(eighty, sizeof eighty);
+    const uint8_t *line = eighty + BINTURAMIS_80_ROW_BYTES + BINTURAMIS_80_LINE_BYTES;
+    for (unsigned byte = 4; byte > 0; byte--)
+        printf("%02X", line[BINTURAMIS_80_LINE_BYTES - byte]);
+    put_indirect(BINTURAMIS_TGS, 0);
+    draw(forty, sizeof forty);
+    return 0;
+}
+"#;
+
+#[test]
+fn a_page_of_80_columns_is_drawn_by_the_headers_names() -> Result<(), String> {
+    let output = run_text(EIGHTY, "eighty")?;
+    assert_eq!(output, "0000000000000 6 0\n 0 25\n4411414400 0 25\n");
     Ok(())
 }
 
@@ -152,8 +210,14 @@ fn the_headers_sizes_are_this_packages() -> Result<(), String> {
         ("PICTURE_BYTES", binturamis::PICTURE_BYTES),
         ("STATE_BYTES", STATE_BYTES),
         ("ROWS", binturamis::ROWS),
+        ("COLUMNS", binturamis::COLUMNS),
         ("ROW_BYTES", binturamis::ROW_BYTES),
         ("LINE_BYTES", binturamis::LINE_BYTES),
+        ("80_COLUMNS", binturamis::COLUMNS_80),
+        ("80_PICTURE_BYTES", binturamis::PICTURE_BYTES_80),
+        ("80_ROW_BYTES", binturamis::ROW_BYTES_80),
+        ("80_LINE_BYTES", binturamis::LINE_BYTES_80),
+        ("TGS_80", usize::from(binturamis::TGS_80)),
     ] {
         assert_eq!(constant(&header, name), size, "{name}");
     }

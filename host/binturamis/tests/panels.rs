@@ -4,11 +4,10 @@
 use std::collections::BTreeSet;
 use std::thread;
 
-use binturamis::{row_of, Panel, Processor, Refusal, MEMORY_BYTES, PICTURE_BYTES, ROM_BYTES};
-use binturamis::{ROWS, ROW_BYTES};
+use binturamis::{Panel, Processor, Refusal, MEMORY_BYTES, ROM_BYTES, ROWS};
 use second::bench::Bench;
-use second::marks::PageRules;
 use second::random::Random;
+use second::rules::PageRules;
 use second::sequence::Sequence;
 use second::Operation;
 
@@ -54,18 +53,18 @@ fn run_alone(seed: u64, operations: &[Operation]) -> (Panel, Vec<String>) {
 #[test]
 fn redrawn_rows_pushed_to_a_screen_give_the_picture() {
     let mut panel = Panel::new(rom(1));
-    let mut screen = *panel.picture();
+    let mut screen: Vec<Vec<u8>> = (0..ROWS).map(|row| panel.row(row).to_vec()).collect();
     let (mut partial, mut pushed) = (0, 0);
     for operation in operations(1, 4_000) {
         if operation != Operation::Draw {
             apply(&mut panel, operation);
         } else if let Ok(redrawn) = panel.draw() {
             for (row, bytes) in redrawn.rows_of(panel.picture()) {
-                screen[ROW_BYTES * row..][..ROW_BYTES].copy_from_slice(bytes);
+                screen[row] = bytes.to_vec();
                 pushed += 1;
             }
             partial += usize::from((1..25).contains(&redrawn.count()));
-            assert!(screen == *panel.picture());
+            assert!(screen.concat() == panel.picture());
         }
     }
     assert!(partial > 50 && pushed > 500, "{partial}, {pushed}");
@@ -78,8 +77,7 @@ fn rows_by_number_are_the_picture() {
         apply(&mut panel, operation);
     }
     let rows: Vec<&[u8]> = (0..ROWS).map(|row| panel.row(row)).collect();
-    assert!(rows.concat() == *panel.picture());
-    assert_eq!(panel.row(24), row_of(panel.picture(), 24));
+    assert!(rows.concat() == panel.picture());
     let different: BTreeSet<&[u8]> = rows.into_iter().collect();
     assert!(different.len() > 10, "{} different rows", different.len());
 }
@@ -87,7 +85,7 @@ fn rows_by_number_are_the_picture() {
 #[test]
 #[should_panic(expected = "row 25, where the last is 24")]
 fn there_is_no_row_25() {
-    row_of(&[0; PICTURE_BYTES], 25);
+    Panel::new(rom(0)).row(25);
 }
 
 #[test]

@@ -4,7 +4,7 @@
 use std::error::Error;
 
 use binturamis::{
-    Panel, Processor, Refusal, RefusedRead, MEMORY_BYTES, PICTURE_BYTES, ROM_BYTES, ROWS,
+    Panel, Processor, Refusal, RefusedRead, Width, MEMORY_BYTES, PICTURE_BYTES, ROM_BYTES, ROWS,
 };
 
 #[test]
@@ -26,8 +26,8 @@ fn the_words_are_the_rules() {
         "refusal 3: a command to execute is not listed",
         "refusal 4: the command's pointer has X above 39 or Y from 1 to 7",
         "refusal 5: ROM is not 6,400 bytes",
-        "refusal 6: picture is not 40,000 bytes",
-        "refusal 7: TGS bits 7, 6 or 5, or PAT bit 7, not zero",
+        "refusal 6: picture is not 40,000 bytes, or 60,000 in 80 columns",
+        "refusal 7: TGS bit 7 or 6 set without the other, or TGS bit 5 or PAT bit 7 set",
         "refusal 8: origin YOR below 8",
         "refusal 9: phase is not 0 or 1",
     ];
@@ -50,6 +50,13 @@ impl Lent {
             rom: vec![0x22; rom],
             picture: vec![0x33; picture],
         }
+    }
+
+    /// IND: a value to an indirect register, by way of R1.
+    fn indirect(&mut self, r: u8, value: u8) -> Result<(), Refusal> {
+        let (processor, memory) = (&mut self.processor, &mut self.memory);
+        binturamis::write(processor, memory, 0x21, value)?;
+        binturamis::write(processor, memory, 0x28, 0x80 + r)
     }
 
     /// The refusal of a draw, after which nothing has changed.
@@ -90,31 +97,74 @@ fn a_memory_of_another_length_is_refused_by_1() {
     }
 }
 
+/// The numbers r of the indirect registers.
+const TGS: u8 = 1;
+const PAT: u8 = 3;
+const ROR: u8 = 7;
+
+/// TGS with its bits 7 and 6 for a width and any others.
+fn tgs(width: Width, others: u8) -> u8 {
+    match width {
+        Width::Forty => others,
+        Width::Eighty => 0xC0 | others,
+    }
+}
+
 #[test]
-fn a_draw_is_refused_by_5_then_6_then_7_then_8() -> Result<(), Refusal> {
+fn a_draw_is_refused_by_5_before_all_that_follows() -> Result<(), Refusal> {
     for length in wrong(ROM_BYTES) {
         let mut lent = Lent::of(MEMORY_BYTES, length, 0);
+        lent.indirect(TGS, 0x40)?;
         assert_eq!(lent.draw_refusal(), Some(Refusal::WrongRom));
     }
-    for length in wrong(PICTURE_BYTES) {
-        let mut lent = Lent::of(MEMORY_BYTES, ROM_BYTES, length);
+    Ok(())
+}
+
+/// The origin is low too: of a page that can be shown the picture comes next, and the origin last.
+#[test]
+fn a_draw_is_refused_by_7_then_6_then_8() -> Result<(), Refusal> {
+    for width in Width::ALL {
+        let right = width.picture_bytes();
+        for length in wrong(right).into_iter().chain([right]) {
+            let mut lent = Lent::of(MEMORY_BYTES, ROM_BYTES, length);
+            let by_length = match length {
+                length if length == right => Refusal::LowOrigin,
+                _ => Refusal::WrongPicture,
+            };
+            for (r, value, refusal) in [
+                (TGS, 0x40, Refusal::NotBuilt),
+                (TGS, 0x80, Refusal::NotBuilt),
+                (TGS, 0xBF, Refusal::NotBuilt),
+                (TGS, tgs(width, 0x20), Refusal::NotBuilt),
+                (TGS, tgs(width, 0x1F), by_length),
+                (PAT, 0x80, Refusal::NotBuilt),
+                (PAT, 0x7F, by_length),
+                (ROR, 0xE7, by_length),
+            ] {
+                lent.indirect(r, value)?;
+                let refused = lent.draw_refusal();
+                assert_eq!(refused, Some(refusal), "{length}: {r} {value:02X}");
+            }
+            lent.indirect(ROR, 0xE8)?;
+            let refused = lent.draw_refusal();
+            assert_eq!(refused.is_some(), length != right, "{refused:?}");
+            let is_drawn = lent.picture != vec![0x33; length];
+            assert_eq!(is_drawn, length == right, "{length}");
+        }
+    }
+    Ok(())
+}
+
+#[test]
+fn the_picture_of_the_other_width_is_refused_by_6() -> Result<(), Refusal> {
+    for (width, other) in Width::ALL.into_iter().zip(Width::ALL.into_iter().rev()) {
+        let mut lent = Lent::of(MEMORY_BYTES, ROM_BYTES, other.picture_bytes());
+        lent.indirect(TGS, tgs(width, 0))?;
+        lent.indirect(ROR, 8)?;
         assert_eq!(lent.draw_refusal(), Some(Refusal::WrongPicture));
+        lent.indirect(TGS, tgs(other, 0))?;
+        assert_eq!(lent.draw_refusal(), None);
     }
-    let mut lent = Lent::of(MEMORY_BYTES, ROM_BYTES, PICTURE_BYTES);
-    for (command, value, refusal) in [
-        (0x81, 0x20, Some(Refusal::NotBuilt)),
-        (0x81, 0x1F, Some(Refusal::LowOrigin)),
-        (0x83, 0x80, Some(Refusal::NotBuilt)),
-        (0x83, 0x7F, Some(Refusal::LowOrigin)),
-        (0x87, 0xE7, Some(Refusal::LowOrigin)),
-        (0x87, 0xE8, None),
-    ] {
-        let (processor, memory) = (&mut lent.processor, &mut lent.memory);
-        binturamis::write(processor, memory, 0x21, value)?;
-        binturamis::write(processor, memory, 0x28, command)?;
-        assert_eq!(lent.draw_refusal(), refusal, "{command:02X} {value:02X}");
-    }
-    assert_ne!(lent.picture, vec![0x33; PICTURE_BYTES]);
     Ok(())
 }
 

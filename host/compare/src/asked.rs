@@ -1,14 +1,15 @@
 //! An operation as it is asked for.
 
-use second::Operation;
+use second::{Mode, Operation};
 
 use crate::lengths::Lengths;
 
-/// An operation, and the lengths of the buffers that are lent to it.
+/// An operation, and what is lent to it.
 #[derive(Clone, Copy, Debug, PartialEq, Eq)]
 pub struct Asked {
     pub operation: Operation,
-    pub lengths: Lengths,
+    /// The lengths of the buffers, or none for the right ones of the mode at the time.
+    lengths: Option<Lengths>,
 }
 
 impl Asked {
@@ -16,7 +17,20 @@ impl Asked {
     pub fn right(operation: Operation) -> Asked {
         Asked {
             operation,
-            lengths: Lengths::RIGHT,
+            lengths: None,
         }
+    }
+
+    /// With buffers of these lengths.
+    pub fn with(operation: Operation, lengths: Lengths) -> Asked {
+        Asked {
+            operation,
+            lengths: Some(lengths),
+        }
+    }
+
+    /// The lengths that are lent in a mode.
+    pub fn lengths(self, mode: Option<Mode>) -> Lengths {
+        self.lengths.unwrap_or_else(|| Lengths::right(mode))
     }
 }

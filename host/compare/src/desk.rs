@@ -1,7 +1,7 @@
 //! A processor with the buffers that are lent to it, of which any length can be lent. The library's
 //! and the second program's stand at desks of the same kind, so that both are asked the same.
 
-use second::{Answer, Operation};
+use second::{Answer, Mode, Operation};
 
 use crate::asked::Asked;
 use crate::lengths::Lengths;
@@ -10,6 +10,9 @@ use crate::report::Report;
 /// A processor, of the library or of the second program.
 pub trait Side {
     fn power_up() -> Self;
+
+    /// The mode that its TGS names.
+    fn mode(&self) -> Option<Mode>;
 
     fn operate(&mut self, operation: Operation, lent: Lent) -> Answer;
 
@@ -44,10 +47,11 @@ impl<S: Side> Desk<S> {
     }
 
     pub fn apply(&mut self, asked: Asked) -> Report {
+        let lengths = asked.lengths(self.processor.mode());
         let lent = Lent {
-            memory: &mut self.memory[..asked.lengths.memory],
-            rom: &self.rom[..asked.lengths.rom],
-            picture: &mut self.picture[..asked.lengths.picture],
+            memory: &mut self.memory[..lengths.memory],
+            rom: &self.rom[..lengths.rom],
+            picture: &mut self.picture[..lengths.picture],
         };
         let answer = self.processor.operate(asked.operation, lent);
         self.processor.report(answer)

@@ -1,4 +1,4 @@
-//! How the private memory of a random page is filled.
+//! How the private memory of a random page of 40 columns is filled.
 
 use second::address::{code_block, place};
 use second::cell::Cell;

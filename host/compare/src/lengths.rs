@@ -1,7 +1,7 @@
-//! The lengths in which the buffers are lent: the right ones, and ones that are refused.
+//! The lengths in which the buffers are lent: the right ones of either mode, and ones that are refused.
 
 use second::random::Random;
-use second::{MEMORY, PICTURE, ROM};
+use second::{Mode, MEMORY, ROM};
 
 /// The bytes that each buffer has past its right length.
 pub const SPARE: usize = 16;
@@ -14,38 +14,51 @@ pub struct Lengths {
 }
 
 impl Lengths {
-    pub const RIGHT: Lengths = Lengths {
-        memory: MEMORY,
-        rom: ROM,
-        picture: PICTURE,
-    };
-
-    /// The whole buffers.
+    /// The whole buffers. The picture is long enough for 80 columns.
     pub const WHOLE: Lengths = Lengths {
         memory: MEMORY + SPARE,
         rom: ROM + SPARE,
-        picture: PICTURE + SPARE,
+        picture: Mode::Eighty.picture() + SPARE,
     };
+
+    /// The right ones of a mode. Where TGS names none a draw is refused whatever the picture.
+    pub fn right(mode: Option<Mode>) -> Lengths {
+        Lengths {
+            memory: MEMORY,
+            rom: ROM,
+            picture: mode.unwrap_or(Mode::Forty).picture(),
+        }
+    }
 
     /// Each length right or wrong by itself, so that the order of the checks shows.
     pub fn any(random: &mut Random) -> Lengths {
         Lengths {
-            memory: right_or_wrong(random, MEMORY),
-            rom: right_or_wrong(random, ROM),
-            picture: right_or_wrong(random, PICTURE),
+            memory: right_or_wrong(random, MEMORY, 2),
+            rom: right_or_wrong(random, ROM, 2),
+            ..Lengths::any_picture(random)
+        }
+    }
+
+    /// Right ones but for the picture's, which most often is right for one of the modes.
+    pub fn any_picture(random: &mut Random) -> Lengths {
+        let mode = random.choice(&[Mode::Forty, Mode::Eighty]);
+        Lengths {
+            picture: right_or_wrong(random, mode.picture(), 4),
+            ..Lengths::right(Some(mode))
         }
     }
 }
 
-fn right_or_wrong(random: &mut Random, right: usize) -> usize {
-    if random.one_in(2) {
-        right
-    } else {
+/// Wrong one time in so many.
+fn right_or_wrong(random: &mut Random, right: usize, times: usize) -> usize {
+    if random.one_in(times) {
         wrong(random, right)
+    } else {
+        right
     }
 }
 
-/// Nothing, one byte short or long, all that there is, or anything shorter.
+/// Nothing, one byte short or long, more than that, or anything shorter.
 fn wrong(random: &mut Random, right: usize) -> usize {
     let shorter = random.below(right);
     random.choice(&[0, right - 1, right + 1, right + SPARE, shorter])

@@ -1,7 +1,7 @@
 //! The library as one of the two sides, through its Rust interface.
 
 use binturamis::Processor;
-use second::{Answer, Operation};
+use second::{Answer, Mode, Operation};
 
 use crate::desk::{Lent, Side};
 use crate::report::Report;
@@ -9,6 +9,10 @@ use crate::report::Report;
 impl Side for Processor {
     fn power_up() -> Processor {
         Processor::power_up()
+    }
+
+    fn mode(&self) -> Option<Mode> {
+        Mode::of(self.state().tgs)
     }
 
     fn operate(&mut self, operation: Operation, lent: Lent) -> Answer {

@@ -1,15 +1,20 @@
-//! Random pages: the memory, the registers, the phase and the marks of a seed.
+//! Random pages: the memory, the registers, the phase and the marks of a seed, in either mode.
 
 use second::picture::View;
 use second::random::Random;
-use second::{Processor, PICTURE, ROM, ROWS};
+use second::{Mode, Processor, ROM, ROWS};
 
 use crate::amount::at_least;
-use crate::filling::{Filling, FILLINGS};
+use crate::codes::CODES;
+use crate::filling::FILLINGS;
 
 pub struct Page {
     pub seed: u64,
-    pub filling: Filling,
+    /// How the memory was filled, to be told.
+    pub filling: String,
+    pub mode: Mode,
+    pub tgs: u8,
+    pub mat: u8,
     pub pat: u8,
     pub dor: u8,
     pub ror: u8,
@@ -23,33 +28,40 @@ pub struct Page {
 
 impl Page {
     /// The page of a seed with every row marked, over a picture of any bytes.
-    pub fn fresh(seed: u64) -> Page {
+    pub fn fresh(mode: Mode, seed: u64) -> Page {
         let mut random = Random::new(seed);
-        // Each filling in turn.
-        let filling = FILLINGS[(seed % FILLINGS.len() as u64) as usize];
         let ror = 32 * (random.byte() % 8) + 8 + random.byte() % 24;
+        let pat = random.byte() % 0x80;
+        let (filling, dor, memory) = filled(mode, seed, &mut random, ror);
         Page {
             seed,
             filling,
-            pat: random.byte() % 0x80,
-            dor: filling.dor(&mut random, ror),
+            mode,
+            tgs: mode.tgs() + random.byte() % 0x20,
+            mat: random.byte(),
+            pat,
+            dor,
             ror,
             phase: random.byte() % 2,
             marks: [true; ROWS],
-            memory: filling.memory(&mut random, ror),
+            memory,
             rom: random.bytes(ROM),
-            picture: random.bytes(PICTURE),
+            picture: random.bytes(mode.picture()),
         }
     }
 
     /// The same page with some rows marked: from none of them to all.
-    pub fn partly_marked(seed: u64) -> Page {
+    pub fn partly_marked(mode: Mode, seed: u64) -> Page {
         let mut random = Random::new(!seed);
         let in_twelve = random.choice(&[0, 1, 3, 6, 9, 11, 12]);
         Page {
             marks: [(); ROWS].map(|()| random.below(12) < in_twelve),
-            ..Page::fresh(seed)
+            ..Page::fresh(mode, seed)
         }
+    }
+
+    pub fn marked_rows(&self) -> impl Iterator<Item = usize> + '_ {
+        (0..ROWS).filter(|row| self.marks[*row])
     }
 
     /// What the second program draws it from.
@@ -57,15 +69,39 @@ impl Page {
         self.second().view(&self.memory, &self.rom)
     }
 
+    /// The picture that the second program draws of it, every row.
+    pub fn fresh_picture(&self) -> Vec<u8> {
+        self.second().fresh(&self.memory, &self.rom)
+    }
+
     /// The second program's processor in the state of the page.
     pub fn second(&self) -> Processor {
         Processor {
+            tgs: self.tgs,
+            mat: self.mat,
             pat: self.pat,
             dor: self.dor,
             ror: self.ror,
             phase: self.phase,
             marks: self.marks,
             ..Processor::power_up()
+        }
+    }
+}
+
+/// The name of a filling, a value for DOR and a memory. Each filling has its turn.
+fn filled(mode: Mode, seed: u64, random: &mut Random, ror: u8) -> (String, u8, Vec<u8>) {
+    let turn = |fillings: usize| (seed % fillings as u64) as usize;
+    match mode {
+        Mode::Forty => {
+            let filling = FILLINGS[turn(FILLINGS.len())];
+            let dor = filling.dor(random, ror);
+            (format!("{filling:?}"), dor, filling.memory(random, ror))
+        }
+        Mode::Eighty => {
+            let codes = CODES[turn(CODES.len())];
+            let dor = random.byte();
+            (format!("{codes:?}"), dor, codes.memory(random, ror))
         }
     }
 }

@@ -1,7 +1,7 @@
 //! The library and the second program side by side: both do each operation, and then the answer,
 //! the state, the memory and the picture are compared whole.
 
-use second::{LINE, ROW};
+use second::Mode;
 
 use crate::asked::Asked;
 use crate::desk::Desk;
@@ -53,7 +53,8 @@ impl Pair {
         }
         if self.library.picture != self.second.picture {
             let at = first(&self.library.picture, &self.second.picture);
-            self.fail(asked, &place_in_picture(at));
+            let mode = self.second.processor.mode().unwrap_or(Mode::Forty);
+            self.fail(asked, &place_in_picture(mode, at));
         }
         report
     }
@@ -70,7 +71,8 @@ fn first(left: &[u8], right: &[u8]) -> usize {
     at.unwrap_or(left.len().min(right.len()))
 }
 
-fn place_in_picture(at: usize) -> String {
-    let (row, line, byte) = (at / ROW, at % ROW / LINE, at % LINE);
-    format!("picture, row {row}, line {line}, byte {byte} of the line")
+fn place_in_picture(mode: Mode, at: usize) -> String {
+    let (row, line) = (at / mode.row(), at % mode.row() / mode.line());
+    let byte = at % mode.line();
+    format!("picture ({mode:?}), row {row}, line {line}, byte {byte} of the line")
 }

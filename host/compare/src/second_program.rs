@@ -1,6 +1,6 @@
 //! The second program as the other of the two sides.
 
-use second::{Answer, Operation, Processor};
+use second::{Answer, Mode, Operation, Processor};
 
 use crate::desk::{Lent, Side};
 use crate::report::Report;
@@ -8,6 +8,10 @@ use crate::report::Report;
 impl Side for Processor {
     fn power_up() -> Processor {
         Processor::power_up()
+    }
+
+    fn mode(&self) -> Option<Mode> {
+        Processor::mode(self)
     }
 
     fn operate(&mut self, operation: Operation, lent: Lent) -> Answer {

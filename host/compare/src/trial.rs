@@ -5,7 +5,7 @@ use std::collections::VecDeque;
 
 use second::random::Random;
 use second::sequence::Sequence;
-use second::{Operation, MEMORY, PICTURE, ROWS};
+use second::{Mode, Operation, Processor, MEMORY, ROWS};
 
 use crate::asked::Asked;
 use crate::lengths::{Lengths, SPARE};
@@ -24,17 +24,23 @@ pub struct Trial {
     pair: Pair,
     /// What is left of the unplanned operations.
     unplanned: VecDeque<Asked>,
+    /// The mode of the last accepted draw.
+    drawn: Option<Mode>,
 }
 
 /// An operation that both did, with the same outcome.
 pub struct Step {
     pub asked: Asked,
+    /// The second program's processor before it.
+    pub before: Processor,
     pub report: Report,
     /// Whether a byte of the memory is another than before.
     pub stored: bool,
     /// Whether it is a draw of every row, for which the library was lent another picture than the
     /// one that was kept.
     pub other_picture: bool,
+    /// Whether it is the first draw of a page in this mode after one in the other.
+    pub other_mode: bool,
     /// The cells of a palette of 0, 1, 2 and 3 colours that a draw has redrawn with a rank missing.
     pub short: [usize; 4],
 }
@@ -51,6 +57,7 @@ impl Trial {
             random,
             pair: Pair::begin(seed, memory, rom),
             unplanned: VecDeque::new(),
+            drawn: None,
         }
     }
 
@@ -58,35 +65,46 @@ impl Trial {
         let asked = self.asked();
         let other_picture = self.draws_every_row(asked) && self.random.one_in(2);
         if other_picture {
-            self.lend_other_picture();
+            self.lend_other_picture(asked);
         }
-        let before = self.pair.second.memory.clone();
-        let marks = self.pair.second.processor.marks;
+        let memory = self.pair.second.memory.clone();
+        let before = self.pair.second.processor.clone();
         let report = self.pair.apply(asked);
-        let drawn = asked.operation == Operation::Draw && report.number == 0;
-        let stored = self.pair.second.memory != before;
         let bytes = self.pair.library.processor.bytes();
         assert_eq!(*bytes, report.packed(), "{asked:?}: the bytes");
+        let is_drawn = asked.operation == Operation::Draw && report.number == 0;
         Step {
             asked,
-            report,
-            stored,
+            stored: self.pair.second.memory != memory,
             other_picture,
-            short: if drawn { self.short(marks) } else { [0; 4] },
+            other_mode: is_drawn && self.has_turned(before.mode()),
+            short: self.short(before.marks, is_drawn),
+            before,
+            report,
         }
     }
 
-    /// The short palettes of some rows of the present page.
-    fn short(&self, rows: [bool; ROWS]) -> [usize; 4] {
+    /// The cells of short palettes among some rows that were drawn, of a page of 40 columns.
+    fn short(&self, rows: [bool; ROWS], is_drawn: bool) -> [usize; 4] {
         let second = &self.pair.second;
         let view = second.processor.view(&second.memory, &second.rom);
+        let mut counts = [0; 4];
+        if !is_drawn || view.page.mode != Mode::Forty {
+            return counts;
+        }
         let marked = (0..ROWS).filter(|row| rows[*row]);
         let cells = marked.flat_map(|row| view.page.cells(row));
-        let mut counts = [0; 4];
         for colours in cells.filter_map(|cell| short_palette(&view, cell)) {
             counts[colours] += 1;
         }
         counts
+    }
+
+    /// Whether a page drawn in a mode follows one that was drawn in the other.
+    fn has_turned(&mut self, mode: Option<Mode>) -> bool {
+        let last = self.drawn;
+        self.drawn = mode;
+        last.is_some() && last != mode
     }
 
     /// An accepted draw with every row marked.
@@ -97,9 +115,10 @@ impl Trial {
     }
 
     /// Any bytes in place of the library's picture, of which a draw of every row leaves none.
-    fn lend_other_picture(&mut self) {
-        let other = self.random.bytes(PICTURE);
-        self.pair.library.picture[..PICTURE].copy_from_slice(&other);
+    fn lend_other_picture(&mut self, asked: Asked) {
+        let length = asked.lengths(self.pair.second.processor.mode()).picture;
+        let other = self.random.bytes(length);
+        self.pair.library.picture[..length].copy_from_slice(&other);
     }
 
     /// Most often the sequence's next operation with the right lengths. Unplanned ones come before

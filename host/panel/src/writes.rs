@@ -36,7 +36,7 @@ pub fn any_execution(seed: u64) -> Vec<u8> {
         bytes.extend([address, random.byte()]);
     }
     let any = random.byte();
-    bytes.extend([0x20, random.choice(&[any, 0x00, 0x01, 0x30, 0x34])]);
+    bytes.extend([0x20, random.choice(&[any, 0x00, 0x01, 0x30, 0x34, 0x50])]);
     bytes.extend([0x29, random.byte()]);
     bytes
 }

@@ -90,6 +90,26 @@ fn the_last_writes_number_is_printed() -> Result<(), String> {
     Ok(())
 }
 
+/// It has a picture of 40 columns: of a page of 80 the draw gets 6, where it would get 7 for TGS bits 7
+/// and 6 apart.
+#[test]
+fn a_page_of_80_columns_is_refused_for_its_picture() -> Result<(), String> {
+    let program = Program::built("panel")?;
+    for (tgs, number) in [(0xC0, 6), (0xDF, 6), (0xE0, 7), (0x40, 7), (0x80, 7)] {
+        let more = [0x21, tgs, 0x28, 0x81];
+        let told = format!("TGS {tgs:02X}");
+        let alone = agreed(&program, &told, &more)?;
+        assert_eq!(alone, format!("0 {number} 0\n{ZEROS}\n"));
+        let after = agreed(&program, &told, &example_and(&more))?;
+        assert_eq!(after, format!("0 {number} 0\n{ZEROS}\n"));
+        // Back in 40 columns the page is drawn.
+        let back = [&more[..], &[0x21, 0x00, 0x28, 0x81]].concat();
+        let drawn = agreed(&program, &told, &example_and(&back))?;
+        assert_eq!(drawn, format!("0 0 25\n{EIGHT}\n"));
+    }
+    Ok(())
+}
+
 /// The program reads by chunks of 4,096 bytes, so that a state, a number or half a pair could be
 /// lost between two of them.
 #[test]
@@ -170,7 +190,7 @@ fn random_inputs() -> Result<(), String> {
             "last write's number {number}: {met:?}"
         );
     }
-    for number in [0, 8] {
+    for number in [0, 6, 8] {
         assert!(met.draws[number] > 50, "draw's number {number}: {met:?}");
     }
     assert!(met.coloured > 50, "{met:?}");

@@ -10,9 +10,13 @@ use compare::pair::Pair;
 use compare::report::Report;
 use compare::unplanned::unplanned;
 use second::random::Random;
-use second::Operation;
+use second::{Mode, Operation};
 
-/// Any bytes; small ones, so that many pages can be drawn; or power-up's, but for a few.
+/// Where TGS stands among the bytes of a processor.
+const TGS: usize = 9;
+
+/// Any bytes; small ones, so that many pages can be drawn; or power-up's, but for a few. Every second
+/// one has the bits of 80 columns.
 fn any_bytes(random: &mut Random) -> [u8; PROCESSOR_BYTES] {
     let mut bytes = *Processor::power_up().bytes();
     match random.below(3) {
@@ -23,6 +27,9 @@ fn any_bytes(random: &mut Random) -> [u8; PROCESSOR_BYTES] {
                 bytes[random.below(PROCESSOR_BYTES)] = random.byte();
             }
         }
+    }
+    if random.one_in(2) {
+        bytes[TGS] |= Mode::Eighty.tgs();
     }
     bytes
 }
@@ -70,9 +77,11 @@ fn second_processor(state: State) -> second::Processor {
     }
 }
 
-/// A few operations of any kind, and then draws in both phases.
+/// A few operations of any kind, a draw into a picture of any length, and then draws in both phases.
 fn any_operations(random: &mut Random) -> Vec<Asked> {
     let mut operations = unplanned(random);
+    let lengths = Lengths::any_picture(random);
+    operations.push(Asked::with(Operation::Draw, lengths));
     let phase = random.byte() % 2;
     let phases = [phase, 1 - phase].map(|phase| Operation::Turn { phase });
     let draws = [
@@ -92,9 +101,9 @@ struct Met {
     numbers: [usize; 10],
     phases_above_1: usize,
     both_lx: usize,
-    /// Rows redrawn in all, and those in such a phase.
-    rows: usize,
-    rows_above_1: usize,
+    /// Of 40 columns and of 80: rows redrawn in all, and those in such a phase.
+    rows: [usize; 2],
+    rows_above_1: [usize; 2],
     /// Refusals that left alone bytes which no call leaves.
     left_alone: usize,
 }
@@ -106,8 +115,9 @@ impl Met {
         self.both_lx += usize::from(report.lxm + report.lxa == 2);
         if asked.operation == Operation::Draw {
             let rows = usize::from(report.value);
-            self.rows += rows;
-            self.rows_above_1 += rows * usize::from(report.phase > 1);
+            let width = usize::from(report.indirect[1] >= Mode::Eighty.tgs());
+            self.rows[width] += rows;
+            self.rows_above_1[width] += rows * usize::from(report.phase > 1);
         }
     }
 }
@@ -185,6 +195,7 @@ fn every_operation_has_one_outcome_and_it_is_the_second_programs() {
     let rare = met.numbers.iter().min().copied().unwrap_or(0);
     assert!(rare >= 30, "a number that is rare: {met:?}");
     assert!(met.phases_above_1 > 1_000 && met.both_lx > 1_000, "{met:?}");
-    assert!(met.rows > 1_000 && met.rows_above_1 > 1_000, "{met:?}");
+    let mut rows = met.rows.into_iter().chain(met.rows_above_1);
+    assert!(rows.all(|rows| rows > 1_000), "{met:?}");
     assert!(met.left_alone > 1_000, "{met:?}");
 }

@@ -4,6 +4,8 @@ use binturamis::{Processor, Redrawn, Refusal};
 use compare::page::Page;
 
 /// IND writes to these, by way of R1.
+const TGS: u8 = 0x81;
+const MAT: u8 = 0x82;
 const PAT: u8 = 0x83;
 const DOR: u8 = 0x84;
 const ROR: u8 = 0x87;
@@ -14,7 +16,13 @@ const MARKS: usize = 19;
 /// A processor from power-up that shows the page, every row of it marked. The page's memory is lent.
 pub fn shown(page: &mut Page) -> Result<Processor, Refusal> {
     let mut processor = Processor::power_up();
-    for (command, value) in [(PAT, page.pat), (DOR, page.dor), (ROR, page.ror)] {
+    for (command, value) in [
+        (TGS, page.tgs),
+        (MAT, page.mat),
+        (PAT, page.pat),
+        (DOR, page.dor),
+        (ROR, page.ror),
+    ] {
         binturamis::write(&mut processor, &mut page.memory, 0x21, value)?;
         binturamis::write(&mut processor, &mut page.memory, 0x28, command)?;
     }

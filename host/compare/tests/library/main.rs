@@ -1,9 +1,12 @@
 //! The library held to the second program.
 
 mod any_bytes;
+mod codes;
 mod drawn;
+mod eighty_columns;
 mod forty_columns;
 mod fresh;
+mod krl;
 mod operations;
 mod palettes;
 mod partial;

@@ -6,7 +6,7 @@ use compare::difference::assert_same;
 use compare::page::Page;
 use second::address::{code_block, place};
 use second::page::screen_y;
-use second::{COLUMNS, LINE, LINES, MEMORY, ROW};
+use second::{Mode, COLUMNS, LINES, MEMORY};
 
 use crate::drawn::{draw, shown};
 
@@ -37,15 +37,14 @@ fn page(character: u8) -> Page {
         ror: ROR,
         dor: 0,
         memory,
-        ..Page::fresh(0)
+        ..Page::fresh(Mode::Forty, 0)
     }
 }
 
 /// The picture that the library draws, which is the second program's.
 fn drawn(mut page: Page) -> Result<Vec<u8>, Refusal> {
     let (_, picture) = draw(shown(&mut page)?, &page)?;
-    let fresh = page.second().fresh(&page.memory, &page.rom);
-    assert_same(&page, &picture, &fresh);
+    assert_same(&page, &picture, &page.fresh_picture());
     Ok(picture)
 }
 
@@ -59,7 +58,7 @@ fn four_colours(palette: u8) -> [u8; 4] {
 fn assert_shows(picture: &[u8], palette: u8, colours: [u8; 4]) {
     let (row, column) = position(palette);
     for line in 0..LINES {
-        let at = ROW * row + LINE * line + 4 * column;
+        let at = Mode::Forty.row() * row + Mode::Forty.line() * line + 4 * column;
         let wanted = colours.map(|colour| 0x11 * colour);
         assert_eq!(picture[at..at + 4], wanted, "palette {palette:02X}");
     }

@@ -5,48 +5,65 @@
 use binturamis::Refusal;
 use compare::difference::assert_same;
 use compare::page::{pages, Page};
-use compare::seen::Seen;
-use second::{ROW, ROWS};
+use compare::seen::{SeenEighty, SeenForty};
+use second::Mode;
 
 use crate::drawn::{draw, marked, shown};
 
 /// The picture before, with the second program's rows where a row is marked.
 fn wanted(page: &Page) -> Vec<u8> {
-    let fresh = page.second().fresh(&page.memory, &page.rom);
+    let (fresh, length) = (page.fresh_picture(), page.mode.row());
     let mut wanted = page.picture.clone();
-    for row in (0..ROWS).filter(|row| page.marks[*row]) {
-        let bytes = ROW * row..ROW * (row + 1);
+    for row in page.marked_rows() {
+        let bytes = length * row..length * (row + 1);
         wanted[bytes.clone()].copy_from_slice(&fresh[bytes]);
     }
     wanted
 }
 
-#[test]
-fn only_marked_rows_are_redrawn() -> Result<(), Refusal> {
-    let pages = pages(2_400);
-    let mut seen = Seen::default();
+/// Compares so many pages of a mode, each of which is looked at too.
+fn compare(mode: Mode, pages: u64, mut look: impl FnMut(&Page)) -> Result<(), Refusal> {
     for seed in 0..pages {
-        let mut page = Page::partly_marked(seed);
+        let mut page = Page::partly_marked(mode, seed);
         let processor = marked(&shown(&mut page)?, |row| u8::from(page.marks[row]));
         let (redrawn, picture) = draw(processor, &page)?;
         assert_same(&page, &picture, &wanted(&page));
-        let marks = page.marks.iter().filter(|mark| **mark).count();
+        let rows = page.marked_rows().count();
         assert_eq!(
             usize::from(redrawn.count()),
-            marks,
+            rows,
             "the rows of seed {seed}"
         );
-        seen.look(&page);
+        look(&page);
     }
-    println!("pages compared: {pages}\n{seen}");
+    Ok(())
+}
+
+#[test]
+fn only_marked_rows_are_redrawn() -> Result<(), Refusal> {
+    let pages = pages(2_400);
+    let mut seen = SeenForty::default();
+    compare(Mode::Forty, pages, |page| seen.look(page))?;
+    println!("pages of 40 columns compared: {pages}\n{seen}");
     seen.assert_varied(1_000, &[]);
+    Ok(())
+}
+
+#[test]
+fn only_marked_rows_of_80_columns_are_redrawn() -> Result<(), Refusal> {
+    let pages = pages(1_600);
+    let mut seen = SeenEighty::default();
+    compare(Mode::Eighty, pages, |page| seen.look(page))?;
+    println!("pages of 80 columns compared: {pages}\n{seen}");
+    seen.assert_varied(10_000);
     Ok(())
 }
 
 #[test]
 fn any_byte_but_zero_marks_a_row() -> Result<(), Refusal> {
     for seed in 0..20 {
-        let mut page = Page::partly_marked(seed);
+        let mode = [Mode::Forty, Mode::Eighty][seed as usize % 2];
+        let mut page = Page::partly_marked(mode, seed);
         let processor = shown(&mut page)?;
         let of_ones = marked(&processor, |row| u8::from(page.marks[row]));
         let of_others = marked(&processor, |row| {
