@@ -7,10 +7,13 @@ help: ## these lines
 PHASE = 0
 SNAPSHOT = cargo run --quiet --release --offline -p snapshot
 
-demo: target/library/libbinturamis.a ## a plant's page, drawn by the library: shown here, and as target/demo.png; PHASE=1 hides what flashes
-	@cd host && $(SNAPSHOT) --bin demonstration >../target/demo.accesses
+demo: target/library/libbinturamis.a ## two pages of a plant, drawn by the library: shown here, and as target/demo.png and demo80.png; PHASE=1 hides what flashes
+	@cd host && $(SNAPSHOT) --bin demonstration -- 40 >../target/demo.accesses
 	@cd host && $(SNAPSHOT) --bin snapshot -- ../target/demo.accesses --png ../target/demo.png --phase $(PHASE)
-	@echo "target/demo.png is the whole picture, target/demo.accesses the register accesses that draw it"
+	@cd host && $(SNAPSHOT) --bin demonstration -- 80 >../target/demo80.accesses
+	@cd host && $(SNAPSHOT) --bin snapshot -- ../target/demo80.accesses --png ../target/demo80.png --phase $(PHASE)
+	@echo "target/demo.png and target/demo80.png are the whole pictures, of 40 and 80 columns; target/demo.accesses and target/demo80.accesses"
+	@echo "are the register accesses that draw them"
 
 test: ## the gate: proofs, must-fail edits, programs, host tests, installation, benchmark, demonstration
 	./.ci/run
@@ -55,10 +58,11 @@ panel: target/bin/panel ## the program `panel` on the example of the rules
 target/bin/panel:
 	rt check panel
 
-rom: ## the demonstration ROM, target/demonstration.rom
+rom: ## the demonstration ROMs, target/demonstration.rom and, with narrow letters for 80 columns, target/narrow.rom
 	@mkdir -p target
 	@cd host && cargo run --quiet --release --offline -p rom -- ../target/demonstration.rom
-	@echo "target/demonstration.rom is written"
+	@cd host && cargo run --quiet --release --offline -p rom -- --narrow ../target/narrow.rom
+	@echo "target/demonstration.rom and target/narrow.rom are written"
 
 format: ## the layout of every file
 	rt fmt

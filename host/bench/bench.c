@@ -14,10 +14,12 @@
 #include <time.h>
 
 #include "prepare.h"
+#include "prepare_wide.h"
 
 /* A repetition: of a scenario with several panels each takes its turn, and a round is over when all of them have had one. */
 struct scenario {
     const char *name;
+    size_t size; /* of a panel */
     unsigned panels;
     page_kind *kind;
     preparation *prepare;
@@ -27,7 +29,19 @@ struct scenario {
 /* What a changed cell costs depends on its row and on the registers, so each row has several pages, with registers of their own. */
 #define PAGES (4 * BINTURAMIS_ROWS)
 
-static struct panel panels[PAGES];
+#define NARROW sizeof(struct panel)
+#define WIDE sizeof(struct wide)
+
+/* The panels of a scenario, one after the other in the size that it has. */
+static union {
+    struct panel narrow[PAGES];
+    struct wide wide[PAGES];
+} panels;
+
+static struct panel *panel_at(const struct scenario *scenario, unsigned long number)
+{
+    return (struct panel *)((uint8_t *)&panels + scenario->size * number);
+}
 
 /* The floor copies a picture to here. */
 static uint8_t screen[BINTURAMIS_PICTURE_BYTES];
@@ -100,29 +114,73 @@ static void repeat_refill(struct panel *panel, unsigned long round)
     draw(panel, BINTURAMIS_ROWS);
 }
 
+static void repeat_wide_redraw(struct panel *panel, unsigned long round)
+{
+    (void)round;
+    panel->processor = panel->before;
+    draw_wide(panel, BINTURAMIS_ROWS);
+}
+
+static void repeat_wide_row(struct panel *panel, unsigned long round)
+{
+    (void)round;
+    panel->processor = panel->before;
+    draw_wide(panel, 1);
+}
+
+static void repeat_wide_changed(struct panel *panel, unsigned long round)
+{
+    panel->processor = panel->before;
+    put_code(panel, panel->row, panel->column, wide_of(panel)->pages[round % 2][panel->row][panel->column]);
+}
+
+static void repeat_wide_printed(struct panel *panel, unsigned long round)
+{
+    panel->processor = panel->before;
+    print(panel, wide_of(panel)->pages[round % 2][panel->row][panel->column].c);
+}
+
+/* MAT changes in one bit, which marks every row. */
+static void repeat_wide_margin(struct panel *panel, unsigned long round)
+{
+    (void)round;
+    panel->processor = panel->before;
+    put_indirect(panel, BINTURAMIS_MAT, wide_of(panel)->margin ^ 1);
+}
+
 /* The first is the floor. */
 static const struct scenario scenarios[] = {
-    {"copy", 1, random_cells, prepare_drawn, repeat_copy},
-    {"redraw", 1, random_cells, prepare_marked, repeat_redraw},
-    {"redraw_text", 1, text, prepare_marked, repeat_redraw},
-    {"redraw_quadrichrome", 1, quadrichrome_cells, prepare_marked, repeat_redraw},
-    {"redraw_user", 1, user_cells, prepare_marked, repeat_redraw},
-    {"redraw_double", 1, double_cells, prepare_marked, repeat_redraw},
-    {"row", BINTURAMIS_ROWS, random_cells, prepare_one_row, repeat_row},
-    {"row_text", BINTURAMIS_ROWS, text, prepare_one_row, repeat_row},
-    {"unmarked", 1, random_cells, prepare_drawn, repeat_unmarked},
-    {"changed", PAGES, random_cells, prepare_drawn, repeat_changed},
-    {"changed_text", PAGES, text, prepare_drawn, repeat_changed},
-    {"changed_quadrichrome", PAGES, quadrichrome_cells, prepare_drawn, repeat_changed},
-    {"changed_user", PAGES, user_cells, prepare_drawn, repeat_changed},
-    {"printed", PAGES, text, prepare_printing, repeat_printed},
-    {"unchanged", PAGES, random_cells, prepare_changed, repeat_unchanged},
-    {"register", 1, random_cells, prepare_drawn, repeat_register},
-    {"phase", PAGES, random_cells, prepare_drawn, repeat_phase},
-    {"phase_text", PAGES, text, prepare_drawn, repeat_phase},
-    {"refill", 1, random_cells, prepare_drawn, repeat_refill},
-    {"refill_single", 1, single_cells, prepare_drawn, repeat_refill},
-    {"refill_text", 1, text, prepare_drawn, repeat_refill},
+    {"copy", NARROW, 1, random_cells, prepare_drawn, repeat_copy},
+    {"redraw", NARROW, 1, random_cells, prepare_marked, repeat_redraw},
+    {"redraw_text", NARROW, 1, text, prepare_marked, repeat_redraw},
+    {"redraw_quadrichrome", NARROW, 1, quadrichrome_cells, prepare_marked, repeat_redraw},
+    {"redraw_user", NARROW, 1, user_cells, prepare_marked, repeat_redraw},
+    {"redraw_double", NARROW, 1, double_cells, prepare_marked, repeat_redraw},
+    {"row", NARROW, BINTURAMIS_ROWS, random_cells, prepare_one_row, repeat_row},
+    {"row_text", NARROW, BINTURAMIS_ROWS, text, prepare_one_row, repeat_row},
+    {"unmarked", NARROW, 1, random_cells, prepare_drawn, repeat_unmarked},
+    {"changed", NARROW, PAGES, random_cells, prepare_drawn, repeat_changed},
+    {"changed_text", NARROW, PAGES, text, prepare_drawn, repeat_changed},
+    {"changed_quadrichrome", NARROW, PAGES, quadrichrome_cells, prepare_drawn, repeat_changed},
+    {"changed_user", NARROW, PAGES, user_cells, prepare_drawn, repeat_changed},
+    {"printed", NARROW, PAGES, text, prepare_printing, repeat_printed},
+    {"unchanged", NARROW, PAGES, random_cells, prepare_changed, repeat_unchanged},
+    {"register", NARROW, 1, random_cells, prepare_drawn, repeat_register},
+    {"phase", NARROW, PAGES, random_cells, prepare_drawn, repeat_phase},
+    {"phase_text", NARROW, PAGES, text, prepare_drawn, repeat_phase},
+    {"refill", NARROW, 1, random_cells, prepare_drawn, repeat_refill},
+    {"refill_single", NARROW, 1, single_cells, prepare_drawn, repeat_refill},
+    {"refill_text", NARROW, 1, text, prepare_drawn, repeat_refill},
+    {"redraw_80", WIDE, 1, random_codes, prepare_wide_marked, repeat_wide_redraw},
+    {"redraw_80_text", WIDE, 1, wide_text, prepare_wide_marked, repeat_wide_redraw},
+    {"row_80", WIDE, BINTURAMIS_ROWS, random_codes, prepare_wide_row, repeat_wide_row},
+    {"row_80_text", WIDE, BINTURAMIS_ROWS, wide_text, prepare_wide_row, repeat_wide_row},
+    {"changed_80", WIDE, PAGES, random_codes, prepare_wide_drawn, repeat_wide_changed},
+    {"changed_80_text", WIDE, PAGES, wide_text, prepare_wide_drawn, repeat_wide_changed},
+    {"printed_80", WIDE, PAGES, wide_text, prepare_wide_printing, repeat_wide_printed},
+    {"phase_80", WIDE, PAGES, random_codes, prepare_wide_drawn, repeat_phase},
+    {"phase_80_text", WIDE, PAGES, wide_text, prepare_wide_drawn, repeat_phase},
+    {"margin_80", WIDE, 1, random_codes, prepare_wide_drawn, repeat_wide_margin},
 };
 
 static const struct scenario *named(const char *name)
@@ -136,20 +194,20 @@ static const struct scenario *named(const char *name)
 
 static void read_panels(const struct scenario *scenario)
 {
-    if (fread(panels, sizeof *panels, scenario->panels, stdin) != scenario->panels || getchar() != EOF)
+    if (fread(&panels, scenario->size, scenario->panels, stdin) != scenario->panels || getchar() != EOF)
         fail("standard input has not the panels of the scenario");
 }
 
 static void write_panels(const struct scenario *scenario)
 {
-    if (fwrite(panels, sizeof *panels, scenario->panels, stdout) != scenario->panels || fflush(stdout) != 0)
+    if (fwrite(&panels, scenario->size, scenario->panels, stdout) != scenario->panels || fflush(stdout) != 0)
         fail("the panels cannot be written");
 }
 
 static void prepare(const struct scenario *scenario)
 {
     for (unsigned i = 0; i < scenario->panels; i++)
-        scenario->prepare(&panels[i], scenario->kind, i % BINTURAMIS_ROWS);
+        scenario->prepare(panel_at(scenario, i), scenario->kind, i % BINTURAMIS_ROWS);
     write_panels(scenario);
 }
 
@@ -166,7 +224,7 @@ static void repeat(const struct scenario *scenario, unsigned long repetitions)
 {
     for (unsigned long i = 0; i < repetitions; i++) {
         begin_repetition();
-        scenario->repeat(&panels[i % scenario->panels], i / scenario->panels);
+        scenario->repeat(panel_at(scenario, i % scenario->panels), i / scenario->panels);
     }
     begin_repetition();
 }

@@ -1,4 +1,4 @@
-/* The operations of a panel, each by calls of the C interface. */
+/* The operations of a panel in 40 columns, each by calls of the C interface. */
 #include <stdio.h>
 #include <stdlib.h>
 
@@ -10,10 +10,19 @@ _Noreturn void fail(const char *what)
     exit(1);
 }
 
-static void expect_accepted(const char *what, uint32_t answer)
+void expect_accepted(const char *what, uint32_t answer)
 {
     if (binturamis_number(answer) != BINTURAMIS_ACCEPTED) {
         fprintf(stderr, "bench: %s got refusal %u\n", what, (unsigned)binturamis_number(answer));
+        exit(1);
+    }
+}
+
+void expect_rows(uint32_t answer, unsigned rows)
+{
+    expect_accepted("a draw", answer);
+    if (binturamis_value(answer) != rows) {
+        fprintf(stderr, "bench: %u rows were redrawn where %u were marked\n", (unsigned)binturamis_value(answer), rows);
         exit(1);
     }
 }
@@ -123,9 +132,5 @@ void draw(struct panel *panel, unsigned rows)
 {
     uint32_t answer = binturamis_draw(&panel->processor, panel->memory, sizeof panel->memory, panel->rom, sizeof panel->rom,
                                       panel->picture, sizeof panel->picture);
-    expect_accepted("a draw", answer);
-    if (binturamis_value(answer) != rows) {
-        fprintf(stderr, "bench: %u rows were redrawn where %u were marked\n", (unsigned)binturamis_value(answer), rows);
-        exit(1);
-    }
+    expect_rows(answer, rows);
 }

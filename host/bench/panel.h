@@ -1,6 +1,6 @@
 /*
  * A panel of the benchmark: a processor with all that it is lent, the two pages of cells that are written to it in turn, and the operations
- * that its controller asks for. An operation that is refused ends the program.
+ * that its controller asks for in 40 columns. An operation that is refused ends the program.
  */
 #ifndef PANEL_H
 #define PANEL_H
@@ -34,6 +34,12 @@ struct panel {
 };
 
 _Noreturn void fail(const char *what);
+
+/* Fails where an answer is a refusal. */
+void expect_accepted(const char *what, uint32_t answer);
+
+/* Fails unless a draw was accepted and has redrawn so many rows. */
+void expect_rows(uint32_t answer, unsigned rows);
 
 void put(struct panel *panel, uint8_t address, uint8_t value);
 

@@ -1,4 +1,4 @@
-/* Panels out of random bytes, prepared by the operations that a controller has. */
+/* Panels in 40 columns out of random bytes, prepared by the operations that a controller has. */
 #include "prepare.h"
 #include "random.h"
 #include "text.h"
@@ -19,8 +19,7 @@ static struct pointer row_pointer(uint8_t ror, unsigned row)
     return pointer;
 }
 
-/* Any registers that a page can be drawn with. */
-static void write_registers(struct panel *panel)
+void write_registers(struct panel *panel)
 {
     uint8_t ror = (uint8_t)(random_byte() / 32 * 32 + 8 + random_byte() % 24);
     put_indirect(panel, BINTURAMIS_PAT, random_byte() % 0x80);
@@ -32,7 +31,7 @@ static void write_registers(struct panel *panel)
         panel->rows[row] = row_pointer(ror, row);
 }
 
-static uint8_t other_byte(uint8_t byte)
+uint8_t other_byte(uint8_t byte)
 {
     return byte ^ (uint8_t)(1 + random_byte() % 255);
 }
@@ -158,7 +157,7 @@ static void change_cell(struct panel *panel)
     panel->before = panel->processor;
 }
 
-static unsigned marked_rows(const struct panel *panel)
+unsigned marked_rows(const struct panel *panel)
 {
     uint8_t told[BINTURAMIS_STATE_BYTES];
     unsigned count = 0;

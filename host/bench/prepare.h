@@ -29,6 +29,15 @@ page_kind double_cells;
 /* Two pages of text. The cell that is changed alone differs in its colour too. */
 page_kind text;
 
+/* Another byte than this one. */
+uint8_t other_byte(uint8_t byte);
+
+/* Any PAT, DOR, ROR and phase that a page can be drawn with, and the pointers to its rows. */
+void write_registers(struct panel *panel);
+
+/* How many rows are marked, of which the row of the cell that was changed must be one. */
+unsigned marked_rows(const struct panel *panel);
+
 /* Each of these takes the row of the cell that is changed alone, and leaves the processor in `before` too. */
 typedef void preparation(struct panel *panel, page_kind *kind, unsigned row);
 

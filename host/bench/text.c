@@ -3,6 +3,7 @@
 
 #include "random.h"
 #include "text.h"
+#include "words.h"
 
 /* B of a G0 cell. */
 #define PLAIN 0x00u
@@ -16,34 +17,10 @@
 #define WHITE_ON_BLUE 0x74u
 #define FLASH 0x08u
 
-#define SPACE 0x20u
-
 /* The title stands in this row and in the next. */
 #define TITLE 1u
 
 #define FLASHING_CELLS 8u
-
-/* Codes that follow each other. */
-struct codes {
-    uint8_t first;
-    uint8_t count;
-};
-
-static const struct codes capitals = {0x41, 26};
-static const struct codes letters = {0x61, 26};
-static const struct codes figures = {0x30, 10};
-static const struct codes marks = {0x21, 15};
-
-static uint8_t one_of(const struct codes *codes)
-{
-    return (uint8_t)(codes->first + random_byte() % codes->count);
-}
-
-static const struct codes *kind_of_word(void)
-{
-    static const struct codes *const kinds[] = {&capitals, &letters, &letters, &figures};
-    return kinds[random_byte() % 4];
-}
 
 static uint8_t colour_of_field(void)
 {
@@ -51,19 +28,13 @@ static uint8_t colour_of_field(void)
     return colours[random_byte() % 8];
 }
 
-/* A word and the space behind it, in as many cells as there is room for; some words have a mark at their end. The answer is its length. */
+/* A word and the space behind it, in as many cells as there is room for. The answer is its length. */
 static unsigned write_word(struct cell *cells, unsigned room, uint8_t b, uint8_t a)
 {
-    const struct codes *kind = kind_of_word();
-    unsigned letters_of_word = 2 + random_byte() % 8;
-    unsigned has_mark = random_byte() % 8 == 0;
-    unsigned length = 0;
-    for (; length < letters_of_word && length < room; length++)
-        cells[length] = (struct cell){one_of(kind), b, a};
-    if (has_mark)
-        cells[length - 1].c = one_of(&marks);
-    if (length < room)
-        cells[length++] = (struct cell){SPACE, b, a};
+    uint8_t characters[WORD];
+    unsigned length = random_word(characters, room);
+    for (unsigned i = 0; i < length; i++)
+        cells[i] = (struct cell){characters[i], b, a};
     return length;
 }
 

@@ -1,4 +1,4 @@
-/* Text as an operator's page has it. */
+/* Text as an operator's page of 40 columns has it. */
 #ifndef TEXT_H
 #define TEXT_H
 

@@ -1,4 +1,4 @@
-//! The demonstration ROM: the texts of the folder `roms`, and what they build.
+//! The demonstration ROM: the texts of the folder `roms` itself, and what they build.
 
 use crate::{build, parse, Character, Fault, ROM_BYTES};
 

@@ -1,5 +1,6 @@
 //! Builds the 6,400 bytes of a character ROM from characters drawn as text, and holds the
-//! demonstration ROM, which is drawn in the folder `roms`.
+//! demonstration ROMs, which are drawn in the folder `roms`: one for pages of 40 columns, and one with
+//! narrow letters for pages of 80.
 //!
 //! A character is a heading line, which names its set, its code and what it shows, and ten lines of
 //! eight marks, `#` for foreground and `.` for background. Empty lines and lines that begin with
@@ -9,6 +10,7 @@ mod character;
 mod demonstration;
 mod fault;
 mod image;
+mod narrow;
 mod parse;
 mod set;
 
@@ -16,5 +18,6 @@ pub use character::{Character, COLUMNS, SLICES};
 pub use demonstration::{demonstration, TEXTS};
 pub use fault::{Fault, What};
 pub use image::{build, place, ROM_BYTES};
+pub use narrow::{narrow, NARROW_TEXTS};
 pub use parse::parse;
 pub use set::{Set, CODES};

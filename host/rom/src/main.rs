@@ -1,15 +1,16 @@
-//! Writes a character ROM to a file: the demonstration ROM, or that of the texts named.
+//! Writes a character ROM to a file: a demonstration ROM, or that of the texts named.
 
 use std::env;
 use std::fs;
 use std::process::ExitCode;
 
-use rom::{build, demonstration, parse, ROM_BYTES};
+use rom::{build, demonstration, narrow, parse, ROM_BYTES};
 
 const HELP: &str = "\
-rom OUTPUT          writes the demonstration ROM, 6,400 bytes, to the file OUTPUT
-rom OUTPUT TEXT...  writes the ROM of the characters that the texts draw
-rom --help          says this
+rom OUTPUT           writes the demonstration ROM, 6,400 bytes, to the file OUTPUT
+rom --narrow OUTPUT  writes the one whose letters are narrow enough for 80 columns
+rom OUTPUT TEXT...   writes the ROM of the characters that the texts draw
+rom --help           says this
 
 It ends with 1 if a text is wrong or a file cannot be read or written, and with 2
 if the command line is wrong.
@@ -21,15 +22,14 @@ fn main() -> ExitCode {
         print!("{HELP}");
         return ExitCode::SUCCESS;
     }
-    let Some((output, texts)) = words.split_first() else {
-        eprint!("rom: the file to write is not named\n{HELP}");
-        return ExitCode::from(2);
+    let (source, output) = match asked(&words) {
+        Ok(asked) => asked,
+        Err(wrong) => {
+            eprint!("rom: {wrong}\n{HELP}");
+            return ExitCode::from(2);
+        }
     };
-    if let Some(flag) = words.iter().find(|word| word.starts_with('-')) {
-        eprint!("rom: there is no flag {flag}\n{HELP}");
-        return ExitCode::from(2);
-    }
-    match written(output, texts) {
+    match written(source, output) {
         Ok(()) => ExitCode::SUCCESS,
         Err(message) => {
             eprintln!("rom: {message}");
@@ -38,12 +38,37 @@ fn main() -> ExitCode {
     }
 }
 
+/// What the ROM is made of.
+enum Source<'a> {
+    Demonstration,
+    Narrow,
+    Texts(&'a [String]),
+}
+
+/// The source and the file to write that a command line asks for, or what is wrong with it.
+fn asked(words: &[String]) -> Result<(Source<'_>, &str), String> {
+    let is_narrow = words.first().is_some_and(|word| word == "--narrow");
+    let files = &words[usize::from(is_narrow)..];
+    let Some((output, texts)) = files.split_first() else {
+        return Err("the file to write is not named".to_string());
+    };
+    if let Some(flag) = files.iter().find(|word| word.starts_with('-')) {
+        return Err(format!("there is no flag {flag}"));
+    }
+    match (is_narrow, texts) {
+        (true, []) => Ok((Source::Narrow, output)),
+        (true, _) => Err("--narrow takes no texts".to_string()),
+        (false, []) => Ok((Source::Demonstration, output)),
+        (false, texts) => Ok((Source::Texts(texts), output)),
+    }
+}
+
 /// Builds before it writes, so that a fault leaves the file as it was.
-fn written(output: &str, texts: &[String]) -> Result<(), String> {
-    let rom = if texts.is_empty() {
-        demonstration().map_err(|fault| fault.to_string())?.0
-    } else {
-        drawn(texts)?
+fn written(source: Source, output: &str) -> Result<(), String> {
+    let rom = match source {
+        Source::Demonstration => demonstration().map_err(|fault| fault.to_string())?.0,
+        Source::Narrow => narrow().map_err(|fault| fault.to_string())?.0,
+        Source::Texts(texts) => drawn(texts)?,
     };
     fs::write(output, rom).map_err(|error| format!("{output} cannot be written: {error}"))
 }

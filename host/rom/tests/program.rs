@@ -4,7 +4,7 @@ use std::fs;
 use std::path::PathBuf;
 use std::process::{Command, Output};
 
-use rom::demonstration;
+use rom::{demonstration, narrow};
 
 /// A file of this test in the folder that cargo keeps for tests.
 fn file(name: &str) -> PathBuf {
@@ -28,6 +28,15 @@ fn it_writes_the_demonstration_rom() {
     let output = run(&[&written.to_string_lossy()]);
     assert!(output.status.success(), "{}", told(&output));
     let (rom, _) = demonstration().expect("the texts are right");
+    assert_eq!(fs::read(written).expect("it was written"), rom);
+}
+
+#[test]
+fn it_writes_the_narrow_rom() {
+    let written = file("narrow.rom");
+    let output = run(&["--narrow", &written.to_string_lossy()]);
+    assert!(output.status.success(), "{}", told(&output));
+    let (rom, _) = narrow().expect("the texts are right");
     assert_eq!(fs::read(written).expect("it was written"), rom);
 }
 
@@ -72,17 +81,27 @@ fn a_file_that_cannot_be_written_is_told() {
 
 #[test]
 fn a_wrong_command_line_is_told() {
-    let output = run(&[]);
-    assert_eq!(output.status.code(), Some(2));
-    assert!(told(&output).contains("the file to write is not named"));
-    let output = run(&["--out", "some.rom"]);
-    assert_eq!(output.status.code(), Some(2));
-    assert!(told(&output).contains("there is no flag --out"));
+    for (words, wrong) in [
+        (&[][..], "the file to write is not named"),
+        (&["--narrow"], "the file to write is not named"),
+        (&["--out", "some.rom"], "there is no flag --out"),
+        (&["--narrow", "--out"], "there is no flag --out"),
+        (&["some.rom", "--narrow"], "there is no flag --narrow"),
+        (
+            &["--narrow", "some.rom", "some.txt"],
+            "--narrow takes no texts",
+        ),
+    ] {
+        let output = run(words);
+        assert_eq!(output.status.code(), Some(2));
+        assert!(told(&output).contains(wrong), "{}", told(&output));
+    }
 }
 
 #[test]
 fn help_is_printed() {
     let output = run(&["--help"]);
     assert!(output.status.success());
-    assert!(String::from_utf8_lossy(&output.stdout).contains("rom OUTPUT"));
+    let printed = String::from_utf8_lossy(&output.stdout);
+    assert!(printed.contains("rom OUTPUT") && printed.contains("rom --narrow OUTPUT"));
 }

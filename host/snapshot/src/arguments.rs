@@ -11,16 +11,18 @@ snapshot ACCESSES  shows the page that recorded register accesses draw
 ACCESSES is a file of byte pairs, an address and a value, which are written one
 after the other from power-up; - is standard input. An odd last byte is ignored.
 
-  --rom FILE    the character ROM, 6,400 bytes; else the demonstration ROM
+  --rom FILE    the character ROM, 6,400 bytes; else the demonstration ROM, which
+                has narrow letters for a page of 80 columns
   --png FILE    writes the picture as a PNG too
   --phase 0|1   the phase of what flashes; else 0
   --plain       without colour, --colour with it; else as the terminal has it
   --help        says this
 
-The picture is fitted to the terminal: COLUMNS is its width, or what stty says,
-or 160. It ends with 1 if a file cannot be read or written or a ROM is wrong, 2 if
-the command line is wrong, and 3 if the draw is refused. Refused accesses are told
-and do not stop it.
+The picture has 320 by 250 pixels, or 480 by 250 where TGS asks for 80 columns. It
+is fitted to the terminal: COLUMNS is its width, or what stty says; where neither
+is known every pixel is shown. It ends with 1 if a file cannot be read or written
+or a ROM is wrong, 2 if the command line is wrong, and 3 if the draw is refused.
+Refused accesses are told and do not stop it.
 ";
 
 /// Where the accesses come from.

@@ -1,15 +1,20 @@
 //! Shows the page that register accesses draw, in the terminal and as a PNG, and holds the
-//! demonstration page: the accesses with which a plant's controller would program the chip.
+//! demonstration pages, one of 40 columns and one of 80: the accesses with which a plant's controller
+//! would program the chip.
 
 pub mod access;
 pub mod arguments;
 pub mod code;
 pub mod colour;
 pub mod demonstration;
+pub mod eighty;
+pub mod grid;
 pub mod panel;
 pub mod png;
 pub mod quadrichrome;
 pub mod raster;
+pub mod recipes;
+pub mod registers;
 pub mod shown;
 pub mod terminal;
 pub mod writer;

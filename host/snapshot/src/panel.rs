@@ -2,7 +2,7 @@
 
 use std::fmt::{self, Display, Formatter};
 
-use binturamis::{Panel, Refusal};
+use binturamis::{Panel, Refusal, Width, ROM_BYTES};
 
 use crate::access::Access;
 
@@ -40,6 +40,13 @@ pub fn play(panel: &mut Panel, accesses: &[Access]) -> Played {
         }
     }
     played
+}
+
+/// The width of the page that the accesses ask for. It does not depend on the ROM.
+pub fn width(accesses: &[Access]) -> Width {
+    let mut panel = Panel::new([0; ROM_BYTES]);
+    play(&mut panel, accesses);
+    panel.state().width()
 }
 
 impl Display for Refused {

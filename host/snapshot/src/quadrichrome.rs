@@ -4,6 +4,7 @@
 //! `m` magenta, `c` cyan, `w` white. A cell has four dots by ten lines.
 
 use crate::colour::Colour;
+use crate::grid::grid;
 
 const DOTS: usize = 4;
 const LINES: usize = 10;
@@ -22,27 +23,15 @@ pub struct Symbol {
 /// The cells of a drawing from left to right and from top to bottom, those that are black all over
 /// left out. What is wrong with a drawing is told in words.
 pub fn symbols(drawing: &str) -> Result<Vec<Symbol>, String> {
-    let lines: Vec<Vec<Colour>> = drawing.lines().map(dots).collect::<Result<_, _>>()?;
-    let width = lines.first().map_or(0, Vec::len);
-    if lines.iter().any(|line| line.len() != width) {
-        return Err("the lines of the drawing differ in length".to_string());
-    }
-    if !width.is_multiple_of(DOTS) || !lines.len().is_multiple_of(LINES) {
-        return Err(format!("cells have {DOTS} dots by {LINES} lines"));
-    }
+    let lines = grid(drawing, colour, (DOTS, LINES))?;
     let mut symbols = Vec::new();
-    for row in 0..lines.len() / LINES {
-        for column in 0..width / DOTS {
-            let part = &lines[LINES * row..LINES * (row + 1)];
+    for (row, part) in lines.chunks(LINES).enumerate() {
+        for column in 0..part[0].len() / DOTS {
             symbols.push(symbol(part, row, column)?);
         }
     }
     symbols.retain(|symbol| symbol.palette != 1 << Colour::Black.number());
     Ok(symbols)
-}
-
-fn dots(line: &str) -> Result<Vec<Colour>, String> {
-    line.chars().map(colour).collect()
 }
 
 fn colour(letter: char) -> Result<Colour, String> {

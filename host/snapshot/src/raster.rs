@@ -1,38 +1,48 @@
 //! A picture as a number of colour a pixel, which is easier to cut up than packed lines.
 
-use binturamis::{LINE_BYTES, PICTURE_BYTES, ROWS};
+use binturamis::{Panel, ROWS};
 
 use crate::colour::Colour;
 
-/// The pixels of a cell, across and down.
-pub const CELL: (usize, usize) = (8, 10);
+/// The lines of a cell.
+pub const CELL_LINES: usize = 10;
 
 /// Pixels, line after line.
 #[derive(Clone, Debug, PartialEq, Eq)]
 pub struct Raster {
     pub width: usize,
     pub height: usize,
+    /// The pixels of a cell across: eight, or six in 80 columns.
+    pub cell_width: usize,
     pub pixels: Vec<Colour>,
 }
 
 impl Raster {
-    /// The picture of the library: two pixels a byte, the left one in the low four bits.
-    pub fn of_picture(picture: &[u8; PICTURE_BYTES]) -> Raster {
+    /// The picture of a panel, in the width that it was drawn in: two pixels a byte, the left one in
+    /// the low four bits.
+    pub fn of_panel(panel: &Panel) -> Raster {
         let pair =
             |byte: &u8| [byte & 7, byte >> 4 & 7].map(|number| Colour::ALL[usize::from(number)]);
+        let width = 2 * panel.width().line_bytes();
         Raster {
-            width: 2 * LINE_BYTES,
-            height: CELL.1 * ROWS,
-            pixels: picture.iter().flat_map(pair).collect(),
+            width,
+            height: CELL_LINES * ROWS,
+            cell_width: width / panel.width().columns(),
+            pixels: panel.picture().iter().flat_map(pair).collect(),
         }
     }
 
     /// A raster whose pixels are asked for by column and line.
-    pub fn drawn(width: usize, height: usize, pixel: impl Fn(usize, usize) -> Colour) -> Raster {
+    pub fn drawn(
+        (width, height): (usize, usize),
+        cell_width: usize,
+        pixel: impl Fn(usize, usize) -> Colour,
+    ) -> Raster {
         let places = (0..height).flat_map(|line| (0..width).map(move |column| (column, line)));
         Raster {
             width,
             height,
+            cell_width,
             pixels: places.map(|(column, line)| pixel(column, line)).collect(),
         }
     }
@@ -63,7 +73,8 @@ impl Raster {
 
     /// The counts of the cell that a pixel is in.
     pub fn cell_counts(&self, column: usize, line: usize) -> [usize; 8] {
-        let corner = (column - column % CELL.0, line - line % CELL.1);
-        self.counts(corner, CELL)
+        let cell = (self.cell_width, CELL_LINES);
+        let corner = (column - column % cell.0, line - line % cell.1);
+        self.counts(corner, cell)
     }
 }

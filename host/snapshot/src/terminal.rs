@@ -5,9 +5,6 @@ use std::fs::File;
 use std::io::{self, IsTerminal};
 use std::process::Command;
 
-/// Where the width is not known: enough to show every pixel.
-const UNKNOWN: usize = 160;
-
 /// What is asked for on the command line, if anything.
 #[derive(Clone, Copy, Debug, PartialEq, Eq)]
 pub enum Asked {
@@ -31,14 +28,12 @@ pub fn allows_colour(term: &str, no_color: &str) -> bool {
     !["", "dumb"].contains(&term) && no_color.is_empty()
 }
 
-/// The columns of the terminal: COLUMNS, or what `stty` says where standard output is a terminal.
-pub fn width() -> usize {
+/// The columns of the terminal, if they are known: COLUMNS, or what `stty` says where standard output
+/// is a terminal.
+pub fn width() -> Option<usize> {
     let columns = env::var("COLUMNS").ok();
     let told = || io::stdout().is_terminal().then(stty).flatten();
-    columns
-        .and_then(|columns| positive(&columns))
-        .or_else(told)
-        .unwrap_or(UNKNOWN)
+    columns.and_then(|columns| positive(&columns)).or_else(told)
 }
 
 /// `stty size` prints the rows and the columns of the terminal that is its standard input.

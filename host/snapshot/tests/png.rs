@@ -1,12 +1,10 @@
 //! The PNG, read back by code of its own, has the picture's pixels and the eight colours.
 
+mod pages;
 mod reading;
 
-use binturamis::Panel;
 use reading::png::read;
 use snapshot::colour::Colour;
-use snapshot::demonstration::page;
-use snapshot::panel::play;
 use snapshot::png::png;
 use snapshot::raster::Raster;
 
@@ -60,29 +58,29 @@ fn random(numbers: &mut Numbers, width: usize, height: usize) -> Raster {
     Raster {
         width,
         height,
+        cell_width: 8,
         pixels,
     }
 }
 
 #[test]
-fn the_demonstration_is_read_back_and_small() {
-    let (rom, _) = rom::demonstration().expect("the texts are right");
-    let mut panel = Panel::new(rom);
-    play(&mut panel, &page());
-    panel.draw().expect("the page can be drawn");
-    let raster = Raster::of_picture(panel.picture());
-    assert_eq!((raster.width, raster.height), (320, 250));
-    assert_read_back(&raster);
-    // Packed, the picture has 40,000 bytes.
-    assert!(png(&raster).len() < 6_000, "{} bytes", png(&raster).len());
+fn the_demonstration_pages_are_read_back_and_small() {
+    for (raster, width) in pages::rasters().iter().zip([320, 480]) {
+        assert_eq!((raster.width, raster.height), (width, 250));
+        assert_read_back(raster);
+        // Packed, the pictures have 40,000 bytes and 60,000.
+        assert!(png(raster).len() < 6_000, "{} bytes", png(raster).len());
+    }
 }
 
 #[test]
 fn pictures_of_one_colour_are_read_back_and_tiny() {
     for colour in Colour::ALL {
-        let raster = Raster::drawn(320, 250, |_, _| colour);
-        assert_read_back(&raster);
-        assert!(png(&raster).len() < 1_000, "{} bytes", png(&raster).len());
+        for (width, cell_width) in [(320, 8), (480, 6)] {
+            let raster = Raster::drawn((width, 250), cell_width, |_, _| colour);
+            assert_read_back(&raster);
+            assert!(png(&raster).len() < 1_000, "{} bytes", png(&raster).len());
+        }
     }
 }
 
@@ -100,6 +98,7 @@ fn random_pictures_of_full_size_are_read_back() {
     let mut numbers = Numbers(2);
     for _ in 0..8 {
         assert_read_back(&random(&mut numbers, 320, 250));
+        assert_read_back(&random(&mut numbers, 480, 250));
     }
 }
 
@@ -113,6 +112,7 @@ fn noise_that_comes_again_is_read_back() {
         assert_read_back(&Raster {
             width,
             height: 2 * height,
+            cell_width: 8,
             pixels,
         });
     }
@@ -133,7 +133,7 @@ fn a_damaged_png_is_not_read() {
 
 #[test]
 fn the_checks_are_the_known_ones() {
-    let bytes = png(&Raster::drawn(1, 1, |_, _| Colour::White));
+    let bytes = png(&Raster::drawn((1, 1), 1, |_, _| Colour::White));
     // The last chunk is the same in every PNG.
     let end = [0, 0, 0, 0, b'I', b'E', b'N', b'D', 0xAE, 0x42, 0x60, 0x82];
     assert_eq!(bytes[bytes.len() - 12..], end);

@@ -9,6 +9,7 @@ use std::process::{Command, Output, Stdio};
 
 use snapshot::access::to_bytes;
 use snapshot::demonstration::page;
+use snapshot::recipes;
 use snapshot::terminal::{allows_colour, of_size};
 
 /// The example of the rules: a user slice 52 hex in the first cell of row 1.
@@ -69,6 +70,33 @@ fn the_example_of_the_rules_is_written_as_a_png() {
     assert!(line[8..].iter().all(|number| *number == 0));
 }
 
+/// A mosaic in the last position of the service row, with its upper left window and its lower right
+/// one, red on blue.
+const EIGHTY: [u8; 26] = [
+    0x21, 0xC0, 0x28, 0x81, 0x21, 0x04, 0x28, 0x82, 0x21, 0x01, 0x28, 0x84, 0x21, 0x08, 0x28, 0x87,
+    0x20, 0x50, 0x26, 0x00, 0x27, 0xA7, 0x23, 0x08, 0x29, 0x81,
+];
+
+#[test]
+fn a_page_of_80_columns_is_written_as_a_wider_png() {
+    let accesses = with("eighty", &EIGHTY);
+    let png = file("eighty.png");
+    let output = run(&[&accesses, path("--png"), &png]);
+    assert!(output.status.success(), "{}", told(&output));
+    assert!(told(&output).contains("480 by 250 pixels"));
+    let read = reading::png::read(&fs::read(png).expect("it was written")).expect("a right PNG");
+    assert_eq!((read.width, read.height), (480, 250));
+    for (line, cell) in [
+        (0, [1, 1, 1, 4, 4, 4]),
+        (2, [4; 6]),
+        (9, [4, 4, 4, 1, 1, 1]),
+    ] {
+        assert_eq!(read.pixels[480 * line + 474..480 * (line + 1)], cell);
+    }
+    let blue = read.pixels.iter().filter(|number| **number == 4).count();
+    assert_eq!(blue, 480 * 250 - 12);
+}
+
 #[test]
 fn standard_input_is_read_where_the_file_is_a_dash() {
     let mut child = command()
@@ -99,6 +127,38 @@ fn the_rom_is_the_users_if_given() {
     let rom = with("own.rom", &rom);
     let output = run(&[&accesses, path("--rom"), &rom]);
     assert_eq!(first(&output), Some("▘  ▝".to_string()));
+}
+
+/// The letter A in the first cell of the service row, white on black, in 80 columns.
+#[test]
+fn the_letters_are_narrow_in_80_columns_unless_a_rom_is_given() {
+    let bytes = [
+        0x21, 0xC0, 0x28, 0x81, 0x21, 0x07, 0x28, 0x84, 0x21, 0x08, 0x28, 0x87, 0x20, 0x50, 0x29,
+        0x41,
+    ];
+    let accesses = with("narrow", &bytes);
+    let first = |output: &Output| printed(output).lines().nth(1).map(str::to_string);
+    assert_eq!(first(&run(&[&accesses])), Some("▌ ▌".to_string()));
+    let (wide, _) = rom::demonstration().expect("the texts are right");
+    let rom = with("wide.rom", &wide);
+    let output = run(&[&accesses, path("--rom"), &rom]);
+    assert_eq!(first(&output), Some("█ █".to_string()));
+}
+
+#[test]
+fn the_phase_hides_what_flashes_in_80_columns() {
+    let accesses = with("recipes", &to_bytes(&recipes::page()));
+    let shown = printed(&run(&[&accesses]));
+    let hidden = printed(&run(&[&accesses, path("--phase"), path("1")]));
+    let differ = |(line, pair): (usize, (&str, &str))| (pair.0 != pair.1).then_some(line);
+    let pairs = shown.lines().zip(hidden.lines()).enumerate();
+    let lines: Vec<usize> = pairs.filter_map(differ).collect();
+    assert!(!lines.is_empty());
+    // Five lines of text for a row: row 6.
+    assert!(
+        lines.iter().all(|line| (30..35).contains(line)),
+        "{lines:?}"
+    );
 }
 
 #[test]
@@ -188,13 +248,11 @@ fn a_refused_draw_is_told_and_writes_nothing() {
         "the page cannot be drawn: refusal 8: origin YOR below 8",
     );
     assert!(!png.exists());
-    let bytes = [0x21, 0x08, 0x28, 0x87, 0x21, 0xC0, 0x28, 0x81];
-    let output = run(&[&with("eighty", &bytes)]);
-    assert_fails(
-        &output,
-        3,
-        "refusal 7: TGS bits 7, 6 or 5, or PAT bit 7, not zero",
-    );
+    for tgs in [0x40, 0x80, 0xE0] {
+        let bytes = [0x21, 0x08, 0x28, 0x87, 0x21, tgs, 0x28, 0x81];
+        let output = run(&[&with("not-built", &bytes)]);
+        assert_fails(&output, 3, "the page cannot be drawn: refusal 7: TGS bit 7");
+    }
 }
 
 #[test]

@@ -1,12 +1,11 @@
 //! Pictures as text: small known ones literally, and that nothing is lost where nothing need be.
 
+mod pages;
 mod reading;
 
 use binturamis::Panel;
 use snapshot::colour::Colour;
 use snapshot::colour::Colour::{Black, Blue, Cyan, Green, Red, White, Yellow};
-use snapshot::demonstration::page;
-use snapshot::panel::play;
 use snapshot::raster::Raster;
 use snapshot::shown::blocks::{coloured, plain, Grain};
 use snapshot::shown::fit::Fit;
@@ -14,7 +13,7 @@ use snapshot::shown::reduced::reduced;
 use snapshot::shown::shown;
 use snapshot::shown::two_tone::two_tone;
 
-/// A raster of letters: `.` black, `r` red and so on.
+/// A raster of letters, its cells eight pixels wide: `.` black, `r` red and so on.
 fn raster(lines: &[&str]) -> Raster {
     let colour = |letter| match letter {
         '.' => Black,
@@ -29,16 +28,9 @@ fn raster(lines: &[&str]) -> Raster {
     Raster {
         width: lines[0].len(),
         height: lines.len(),
+        cell_width: 8,
         pixels: lines.concat().chars().map(colour).collect(),
     }
-}
-
-fn demonstration() -> Raster {
-    let (rom, _) = rom::demonstration().expect("the texts are right");
-    let mut panel = Panel::new(rom);
-    play(&mut panel, &page());
-    panel.draw().expect("a right page");
-    Raster::of_picture(panel.picture())
 }
 
 #[test]
@@ -94,13 +86,14 @@ fn assert_read_back(picture: &Raster) {
 }
 
 #[test]
-fn quarter_blocks_lose_nothing_of_the_demonstration() {
-    assert_read_back(&demonstration());
+fn quarter_blocks_lose_nothing_of_the_demonstration_pages() {
+    for raster in &pages::rasters() {
+        assert_read_back(raster);
+    }
 }
 
-/// Any bytes as cells and as slices: two by two pixels still have no more than two colours.
-#[test]
-fn quarter_blocks_lose_nothing_of_any_page() {
+/// A page of any bytes as cells and as slices, with these values in TGS, MAT and DOR.
+fn page_of_any_bytes(tgs: u8, mat: u8, dor: u8) -> Raster {
     let mut number = 7_u64;
     let mut byte = || {
         number = number
@@ -111,15 +104,11 @@ fn quarter_blocks_lose_nothing_of_any_page() {
     let rom = std::array::from_fn(|_| byte());
     let mut panel = Panel::new(rom);
     let mut write = |address, value| panel.write(address, value).expect("accepted");
-    for (address, value) in [
-        (0x21, 0x08),
-        (0x28, 0x87),
-        (0x21, 0x00),
-        (0x28, 0x84),
-        (0x20, 0x01),
-    ] {
-        write(address, value);
+    for (r, value) in [(1, tgs), (2, mat), (4, dor), (7, 0x08)] {
+        write(0x21, value);
+        write(0x28, 0x80 + r);
     }
+    write(0x20, 0x01);
     for y in [0].into_iter().chain(8..32) {
         write(0x26, y);
         write(0x27, 0);
@@ -130,16 +119,24 @@ fn quarter_blocks_lose_nothing_of_any_page() {
         }
     }
     panel.draw().expect("a right page");
-    assert_read_back(&Raster::of_picture(panel.picture()));
+    Raster::of_panel(&panel)
+}
+
+/// Two by two pixels of any page have no more than two colours.
+#[test]
+fn quarter_blocks_lose_nothing_of_any_page() {
+    assert_read_back(&page_of_any_bytes(0x00, 0x00, 0x00));
+    assert_read_back(&page_of_any_bytes(0xC0, 0x04, 0x31));
 }
 
 #[test]
 fn a_terminal_gets_the_finest_that_fits() {
-    let fit = |terminal| {
-        let fit = Fit::of(320, terminal);
-        assert!(fit.columns(320) <= terminal.max(1));
+    let fit_of = |width, terminal: usize| {
+        let fit = Fit::of(width, terminal);
+        assert!(fit.columns(width) <= terminal.max(1));
         (fit.grain, fit.across, fit.down())
     };
+    let fit = |terminal| fit_of(320, terminal);
     assert_eq!(fit(400), (Grain::Half, 1, 1));
     assert_eq!(fit(320), (Grain::Half, 1, 1));
     assert_eq!(fit(319), (Grain::Quarter, 1, 1));
@@ -150,6 +147,9 @@ fn a_terminal_gets_the_finest_that_fits() {
     assert_eq!(fit(40), (Grain::Quarter, 4, 2));
     assert_eq!(fit(1), (Grain::Quarter, 160, 80));
     assert_eq!(fit(0), (Grain::Quarter, 160, 80));
+    assert_eq!(fit_of(480, 240), (Grain::Quarter, 1, 1));
+    assert_eq!(fit_of(480, 160), (Grain::Quarter, 2, 1));
+    assert_eq!(fit_of(480, 80), (Grain::Quarter, 3, 1));
 }
 
 #[test]
@@ -166,6 +166,19 @@ fn a_stroke_that_takes_half_of_a_part_is_kept() {
     assert_eq!([0, 1, 2, 3].map(|column| picture.at(column, 2)), [White; 4]);
 }
 
+/// The ground is asked of the cell that a pixel is in: here the red stroke of the first cell is on
+/// white, and the white one of the second on red.
+#[test]
+fn cells_of_80_columns_are_six_pixels_wide() {
+    let mut picture = raster(&["wwwrwwrrrwrr"; 10]);
+    picture.cell_width = 6;
+    let shown = |raster: &Raster| -> Vec<Colour> { (0..6).map(|at| raster.at(at, 0)).collect() };
+    let by_six = shown(&reduced(&picture, 2, 1));
+    assert_eq!(by_six, [White, Red, White, Red, White, Red]);
+    picture.cell_width = 12;
+    assert_ne!(shown(&reduced(&picture, 2, 1)), by_six);
+}
+
 #[test]
 fn a_dot_smaller_than_that_is_not_kept() {
     let mut lines = vec!["bbbbbbbb"; 10];
@@ -176,14 +189,19 @@ fn a_dot_smaller_than_that_is_not_kept() {
 
 #[test]
 fn reduction_by_one_changes_nothing() {
-    let picture = demonstration();
-    assert_eq!(reduced(&picture, 1, 1), picture);
+    for picture in pages::rasters() {
+        assert_eq!(reduced(&picture, 1, 1), picture);
+    }
 }
 
 #[test]
 fn reduction_cuts_at_the_edges() {
     let picture = reduced(&raster(&["rrg", "rrg", "ccc"]), 2, 2);
-    assert_eq!(picture, raster(&["rg", "cc"]));
+    let wanted = Raster {
+        cell_width: 4,
+        ..raster(&["rg", "cc"])
+    };
+    assert_eq!(picture, wanted);
 }
 
 fn two_tones(line: &str) -> String {
@@ -215,8 +233,8 @@ fn a_cell_of_one_colour_is_ground_where_another_cell_of_the_row_has_that_ground(
 
 #[test]
 fn the_line_says_how_to_see_the_whole() {
-    let picture = Raster::drawn(320, 250, |_, _| Black);
-    let note = |width| shown(&picture, width, false).1;
+    let picture = Raster::drawn((320, 250), 8, |_, _| Black);
+    let note = |width| shown(&picture, Some(width), false).1;
     assert_eq!(
         note(320),
         "320 by 250 pixels, every one shown, in 320 columns."
@@ -232,13 +250,24 @@ fn the_line_says_how_to_see_the_whole() {
 }
 
 #[test]
+fn every_pixel_is_shown_where_the_terminal_is_not_known() {
+    let notes = pages::rasters().map(|raster| shown(&raster, None, false).1);
+    let wanted = [
+        "320 by 250 pixels, every one shown, in 160 columns.",
+        "480 by 250 pixels, every one shown, in 240 columns.",
+    ];
+    assert_eq!(notes, wanted);
+}
+
+#[test]
 fn text_is_no_wider_than_the_terminal() {
-    let picture = demonstration();
-    for width in [320, 200, 160, 120, 80, 40] {
-        let (text, _) = shown(&picture, width, false);
-        let widest = text.lines().map(|line| line.chars().count()).max();
-        assert!(widest <= Some(width), "{widest:?} in {width}");
-        let lines = picture.height.div_ceil(2 * Fit::of(320, width).down());
-        assert_eq!(text.lines().count(), lines);
+    for picture in &pages::rasters() {
+        for width in [480, 320, 240, 160, 120, 80, 40] {
+            let (text, _) = shown(picture, Some(width), false);
+            let widest = text.lines().map(|line| line.chars().count()).max();
+            assert!(widest <= Some(width), "{widest:?} in {width}");
+            let down = Fit::of(picture.width, width).down();
+            assert_eq!(text.lines().count(), picture.height.div_ceil(2 * down));
+        }
     }
 }

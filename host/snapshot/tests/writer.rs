@@ -1,4 +1,5 @@
-//! The writer's accesses, literally and by what they store, and the cells of a drawing.
+//! The accesses of the writer of 40 columns, literally and by what they store, and the cells of a
+//! quadrichrome drawing.
 
 use binturamis::{Panel, ROM_BYTES};
 use rom::Set;
@@ -7,10 +8,11 @@ use snapshot::code::{Code, Look};
 use snapshot::colour::Colour;
 use snapshot::panel::play;
 use snapshot::quadrichrome::symbols;
-use snapshot::writer::{Indirect, Writer};
+use snapshot::registers::Registers;
+use snapshot::writer::Writer;
 
 fn written(write: impl Fn(&mut Writer)) -> Vec<(u8, u8)> {
-    let mut writer = Writer::new();
+    let mut writer = Writer::of(Registers::new());
     write(&mut writer);
     let accesses = writer.accesses().into_iter();
     accesses
@@ -20,45 +22,12 @@ fn written(write: impl Fn(&mut Writer)) -> Vec<(u8, u8)> {
 
 /// A panel after some writing, all of it accepted.
 fn panel(write: impl Fn(&mut Writer)) -> Panel {
-    let mut writer = Writer::new();
+    let mut writer = Writer::of(Registers::new());
     write(&mut writer);
     let mut panel = Panel::new([0; ROM_BYTES]);
     let played = play(&mut panel, &writer.accesses());
     assert_eq!(played.refused, 0, "{:?}", played.first);
     panel
-}
-
-#[test]
-fn indirect_registers_go_through_r1() {
-    let accesses = written(|writer| {
-        writer.nop();
-        writer.indirect(Indirect::Ror, 0x08);
-        writer.indirect(Indirect::Pat, 0x4F);
-    });
-    let wanted = [
-        (0x28, 0x91),
-        (0x21, 0x08),
-        (0x28, 0x87),
-        (0x21, 0x4F),
-        (0x28, 0x83),
-    ];
-    assert_eq!(accesses, wanted);
-}
-
-#[test]
-fn every_indirect_register_gets_its_value() {
-    let state = panel(|writer| {
-        writer.indirect(Indirect::Tgs, 1);
-        writer.indirect(Indirect::Mat, 2);
-        writer.indirect(Indirect::Pat, 3);
-        writer.indirect(Indirect::Dor, 4);
-        writer.indirect(Indirect::Ror, 7);
-    })
-    .state();
-    assert_eq!(
-        (state.tgs, state.mat, state.pat, state.dor, state.ror),
-        (1, 2, 3, 4, 7)
-    );
 }
 
 #[test]
@@ -175,7 +144,7 @@ fn a_drawing_becomes_palettes_and_ranks() {
 fn a_wrong_drawing_is_told() {
     let told = |drawing: &str| symbols(drawing).expect_err("a wrong drawing");
     assert!(told("rgyb\nm").contains("differ in length"));
-    assert!(told("rgyb\n").contains("4 dots by 10 lines"));
+    assert!(told("rgyb\n").contains("4 marks by 10 lines"));
     assert!(told("rgx.\n").contains("`x` is no colour"));
     let five = format!("rgyb\n{}", "cccc\n".repeat(9));
     assert!(told(&five).contains("row 0, column 0 has more than four colours"));

@@ -6,9 +6,10 @@ use std::io::{self, ErrorKind, Read, Write};
 use std::path::Path;
 use std::process::ExitCode;
 
-use binturamis::{Panel, ROM_BYTES};
+use binturamis::{Panel, Width, ROM_BYTES};
+use snapshot::access::Access;
 use snapshot::arguments::{parse, Arguments, Command, Source, HELP};
-use snapshot::panel::play;
+use snapshot::panel::{play, width};
 use snapshot::raster::Raster;
 use snapshot::{access, png, shown, terminal};
 
@@ -53,9 +54,13 @@ fn show(arguments: &Arguments) -> Result<(), Failure> {
 
 /// The picture of the accesses; what was refused on the way is told.
 fn drawn(arguments: &Arguments) -> Result<Raster, Failure> {
-    let mut panel = Panel::new(rom(arguments.rom.as_deref())?);
     let bytes = recorded(&arguments.accesses)?;
-    let played = play(&mut panel, &access::of_bytes(&bytes));
+    let accesses = access::of_bytes(&bytes);
+    let mut panel = Panel::new(match &arguments.rom {
+        Some(file) => read_rom(file)?,
+        None => demonstration_rom(&accesses)?,
+    });
+    let played = play(&mut panel, &accesses);
     if bytes.len() % 2 == 1 {
         eprintln!("snapshot: the last byte has no partner and is ignored");
     }
@@ -70,14 +75,20 @@ fn drawn(arguments: &Arguments) -> Result<Raster, Failure> {
             exit: 3,
             message: format!("the page cannot be drawn: {refusal}"),
         })?;
-    Ok(Raster::of_picture(panel.picture()))
+    Ok(Raster::of_panel(&panel))
 }
 
-fn rom(file: Option<&Path>) -> Result<[u8; ROM_BYTES], Failure> {
-    let Some(file) = file else {
-        let built = rom::demonstration().map_err(|fault| of_file(fault.to_string()))?;
-        return Ok(built.0);
+/// The demonstration ROM for the width of the page.
+fn demonstration_rom(accesses: &[Access]) -> Result<[u8; ROM_BYTES], Failure> {
+    let built = match width(accesses) {
+        Width::Forty => rom::demonstration(),
+        Width::Eighty => rom::narrow(),
     };
+    let (rom, _) = built.map_err(|fault| of_file(fault.to_string()))?;
+    Ok(rom)
+}
+
+fn read_rom(file: &Path) -> Result<[u8; ROM_BYTES], Failure> {
     let bytes = read(file)?;
     let count = bytes.len();
     bytes.try_into().map_err(|_| {

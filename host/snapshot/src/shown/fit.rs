@@ -2,10 +2,10 @@
 //!
 //! A terminal's character is about twice as high as it is wide, so half blocks keep the shape of the
 //! picture. Where they are too wide, legible letters come before shape: quarter blocks show every
-//! pixel in half the columns. A cell has two colours, or four in dots two pixels wide, so that two by
-//! two pixels of it never have more than the two colours that a character can show. Where these too
-//! are too wide, the picture is reduced across, and down only half as much: most letters have upright
-//! strokes two pixels wide, and lines that are one pixel high.
+//! pixel in half the columns. A cell has two colours, or four in dots two pixels wide, and is eight or
+//! six pixels wide, so that two by two pixels never have more than the two colours that a character
+//! can show. Where these too are too wide, the picture is reduced across, and down only half as much:
+//! most letters have upright strokes two pixels wide, and lines that are one pixel high.
 
 use super::blocks::Grain;
 

@@ -11,9 +11,10 @@ use fit::Fit;
 use reduced::reduced;
 use two_tone::two_tone;
 
-/// The picture as it is shown in a terminal of some width, and the line that goes with it.
-pub fn shown(raster: &Raster, width: usize, has_colour: bool) -> (String, String) {
-    let fit = Fit::of(raster.width, width);
+/// The picture as it is shown in a terminal, and the line that goes with it. Where the terminal's
+/// width is not known, every pixel is shown.
+pub fn shown(raster: &Raster, width: Option<usize>, has_colour: bool) -> (String, String) {
+    let fit = Fit::of(raster.width, width.unwrap_or_else(|| enough(raster)));
     let fitted = |raster: &Raster| reduced(raster, fit.across, fit.down());
     let text = if has_colour {
         blocks::coloured(&fitted(raster), fit.grain)
@@ -21,6 +22,11 @@ pub fn shown(raster: &Raster, width: usize, has_colour: bool) -> (String, String
         blocks::plain(&fitted(&two_tone(raster)), fit.grain)
     };
     (text, note(raster, fit))
+}
+
+/// The columns that show every pixel, at the least.
+fn enough(raster: &Raster) -> usize {
+    raster.width.div_ceil(Grain::Quarter.across())
 }
 
 /// Says what is seen, and how to see the whole.
@@ -31,7 +37,7 @@ fn note(raster: &Raster, fit: Fit) -> String {
         1 => format!("{size}, every one shown, in {columns} columns."),
         across => format!(
             "{size}, {across} across shown as one, in {columns} columns: {} columns show every one, as does --png.",
-            raster.width / Grain::Quarter.across()
+            enough(raster)
         ),
     }
 }

@@ -5,8 +5,9 @@ use crate::raster::Raster;
 
 /// Each pixel stands for a part of some pixels across and some down.
 pub fn reduced(raster: &Raster, across: usize, down: usize) -> Raster {
-    let (width, height) = (raster.width.div_ceil(across), raster.height.div_ceil(down));
-    Raster::drawn(width, height, |column, line| {
+    let size = (raster.width.div_ceil(across), raster.height.div_ceil(down));
+    let cell_width = raster.cell_width.div_ceil(across);
+    Raster::drawn(size, cell_width, |column, line| {
         of_part(raster, (across * column, down * line), (across, down))
     })
 }

@@ -6,16 +6,17 @@
 //! two words on red is not.
 
 use crate::colour::Colour;
-use crate::raster::{Raster, CELL};
+use crate::raster::{Raster, CELL_LINES};
 
 pub fn two_tone(raster: &Raster) -> Raster {
-    let rows = raster.height.div_ceil(CELL.1);
+    let rows = raster.height.div_ceil(CELL_LINES);
     let grounds: Vec<[bool; 8]> = (0..rows).map(|row| grounds(raster, row)).collect();
-    Raster::drawn(raster.width, raster.height, |column, line| {
+    let size = (raster.width, raster.height);
+    Raster::drawn(size, raster.cell_width, |column, line| {
         let colour = raster.at(column, line);
         let is_ground = match ground(&raster.cell_counts(column, line)) {
             Some(ground) => colour == ground,
-            None => grounds[line / CELL.1][usize::from(colour.number())],
+            None => grounds[line / CELL_LINES][usize::from(colour.number())],
         };
         if is_ground {
             Colour::Black
@@ -29,8 +30,8 @@ pub fn two_tone(raster: &Raster) -> Raster {
 fn grounds(raster: &Raster, row: usize) -> [bool; 8] {
     let mut grounds = [false; 8];
     grounds[usize::from(Colour::Black.number())] = true;
-    for column in (0..raster.width).step_by(CELL.0) {
-        if let Some(ground) = ground(&raster.cell_counts(column, CELL.1 * row)) {
+    for column in (0..raster.width).step_by(raster.cell_width) {
+        if let Some(ground) = ground(&raster.cell_counts(column, CELL_LINES * row)) {
             grounds[usize::from(ground.number())] = true;
         }
     }
