@@ -58,17 +58,17 @@ module _ (shown : Shown) where
     nothing : refused7 shown ≡ true → asks 0
     nothing e = rw e
 
-    pub asks-forty : shown .tgs < 32 → shown .pat < 128 → asks (pictureBytes fortyBytes)
-    asks-forty l p =
+    pub asks-forty : (n : ℕ) → n ≡ pictureBytes fortyBytes → shown .tgs < 32 → shown .pat < 128 → asks n
+    asks-forty n e l p =
         let no = sym (refused-forty l) ∙ lt-leb 128 (shown .pat) p in
         let forty = sym (eighty-test shown h) ∙ lt-leb 192 (shown .tgs) (omega arith) in
-        rw (no, forty-bytes shown forty)
+        e ∙ rw (no, forty-bytes shown forty)
 
-    pub asks-eighty : 32 ≤ shown .tgs → shown .tgs / 32 ≡ 6 → shown .pat < 128 → asks (pictureBytes eightyBytes)
-    asks-eighty l e p =
-        let no = sym (refused-eighty l e) ∙ lt-leb 128 (shown .pat) p in
+    pub asks-eighty : (n : ℕ) → n ≡ pictureBytes eightyBytes → 32 ≤ shown .tgs → shown .tgs / 32 ≡ 6 → shown .pat < 128 → asks n
+    asks-eighty n e l d p =
+        let no = sym (refused-eighty l d) ∙ lt-leb 128 (shown .pat) p in
         let eighty = sym (eighty-test shown h) ∙ le-leb 192 (shown .tgs) (omega arith) in
-        rw (no, eighty-bytes shown eighty)
+        e ∙ rw (no, eighty-bytes shown eighty)
 
     pub asks-no-mode : 32 ≤ shown .tgs → (shown .tgs / 32 ≡ 6 → ⊥) → asks 0
     asks-no-mode l n = nothing (sym (refused-tgs l n))
