@@ -10,12 +10,9 @@ use borrow.Author.Tests.{lt-ltb, le-ltb, le-leb, lt-leb, eq-eqb, ne-eqb, ltb-tru
 use Rattle.basics.specs.Choice.{pick}
 use Rattle.basics.proofs.Choice.{and-left, and-right, and-both, or-cases, or-left, or-right}
 use Rattle.address.specs.declared.triple.Triple.{Triple}
-use Rattle.address.specs.Triples.{legalY, onPage, legalIn}
+use Rattle.address.specs.Triples.{legalY, onPage, legal, legalIn}
 use Rattle.address.specs.Places.{placeOf}
 use Rattle.address.specs.Rows.{rowY}
-use Rattle.address.specs.Slices.{sliceX, sliceY, slicePlaceOf}
-use Rattle.address.specs.declared.slice.SlicePlace.{SlicePlace}
-use Rattle.address.specs.declared.slice.SlicePlace.the-variants.{At, NoByte}
 
 -- two triples are equal where their fields are
 pub triple : {a b c x y z : ℕ} → a ≡ x → b ≡ y → c ≡ z → _≡_ {A = Triple} (record { x = a; y = b; z = c }) (record { x = x; y = y; z = z })
@@ -61,23 +58,23 @@ module _ (x y : ℕ) where
   unfolding onPage
   facts-page h r = and-both _ _ (lt-ltb x 40 h) (facts-y y r)
 
--- on a board of so many blocks
-module _ (n : ℕ) (t : Triple) where
-  pub bad-column : 40 ≤ t .x → legalIn n t ≡ false
-  unfolding legalIn onPage
+  pub bad-column : 40 ≤ x → onPage x y ≡ false
+  unfolding onPage
   bad-column h = simp (le-ltb _ _ h)
 
-  pub bad-row : t .x < 40 → legalY (t .y) ≡ false → legalIn n t ≡ false
-  unfolding legalIn onPage
-  bad-row h e = simp (lt-ltb _ _ h, e)
+  pub good-column : x < 40 → onPage x y ≡ legalY y
+  unfolding onPage
+  good-column h = simp (lt-ltb _ _ h)
 
-  pub good-row : t .x < 40 → legalY (t .y) ≡ true → legalIn n t ≡ ltb (t .z) n
-  unfolding legalIn onPage
-  good-row h e = simp (lt-ltb _ _ h, e)
-
-  pub legal-page : legalIn n t ≡ true → onPage (t .x) (t .y) ≡ true
+-- on a board of so many blocks
+module _ (n : ℕ) (t : Triple) where
+  pub legal-page : legalIn n t ≡ true → legal t ≡ true
   unfolding legalIn
   legal-page e = and-left _ _ e
+
+  pub legal-fitted : legal t ≡ true → t .z < n → legalIn n t ≡ true
+  unfolding legalIn
+  legal-fitted e l = and-both _ _ e (lt-ltb (t .z) n l)
 
   pub legal-block : legalIn n t ≡ true → t .z < n
   unfolding legalIn
@@ -116,21 +113,13 @@ module _ (yor r : ℕ) where
       go false = omega arith
 
   -- it is legal
-  pub row-legal : legalY (rowY yor r) ≡ true
+  pub row-facts : Row (rowY yor r)
   unfolding rowY
-  row-legal = facts-y _ (go (eqb r 0))
+  row-facts = go (eqb r 0)
     where
       go : (t : Bool) → Row (pick t 0 (8 + (yor - 8 + r - 1) % 24))
       go true = inl refl
       go false = inr (omega arith, omega arith)
 
--- the two ways of a slice
-module _ (c nt z : ℕ) where
-  pub slice-kept :
-      (x y p : ℕ) → legalY y ≡ true → p ≡ placeOf x y z → x ≡ sliceX c nt → y ≡ sliceY c → _≡_ {A = SlicePlace} (At p) (slicePlaceOf c nt z)
-  unfolding slicePlaceOf
-  slice-kept x y p e q ex ey = rw (← ey, e, q, ex)
-
-  pub slice-none : (y : ℕ) → legalY y ≡ false → y ≡ sliceY c → NoByte ≡ slicePlaceOf c nt z
-  unfolding slicePlaceOf
-  slice-none y e ey = rw (← ey, e)
+  pub row-legal : legalY (rowY yor r) ≡ true
+  row-legal = facts-y _ row-facts

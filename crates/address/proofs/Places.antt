@@ -6,13 +6,12 @@ use mathlib.Core.Path.{_≡_}
 use mathlib.Core.Bool.{true}
 use mathlib.Core.Logic.{⊎-elim}
 use native.Mathlib.Omega.{arith}
-use borrow.Author.Tests.{lt-ltb}
-use Rattle.basics.proofs.Choice.{lt-or-le, eq-or-ne, and-both}
+use Rattle.basics.proofs.Choice.{lt-or-le, eq-or-ne}
 use Rattle.address.specs.declared.triple.Triple.{Triple}
 use Rattle.address.specs.Triples.{onPage, legalIn}
 use Rattle.address.specs.Boards.{bytesOf}
 use Rattle.address.specs.Places.{placeOf, blockOf, placeAt, blockAt}
-use Rattle.address.proofs.Laws.{triple, page-column, page-row, legal-page, legal-block, place-left, place-service, place-right}
+use Rattle.address.proofs.Laws.{triple, page-column, page-row, legal-page, legal-fitted, legal-block, place-left, place-service, place-right}
 
 -- the three ranges of a block, each with the rule of its places
 pub data Shape (x y z p : ℕ) : Type 0 where
@@ -109,10 +108,9 @@ place-fits-in n t p e h = rw e (legal-place n t h)
 pub legal-x : (n : ℕ) (t : Triple) → legalIn n t ≡ true → t .x < 40
 legal-x n t e = page-column (t .x) (t .y) (legal-page n t e)
 
--- a legal triple's X and Y in any block of the board are legal
+-- the X and Y of a triple that is legal and fitted, in any block of the board
 pub legal-moved : (n : ℕ) (t : Triple) (z : ℕ) → legalIn n t ≡ true → z < n → legalIn n (record { x = t .x; y = t .y; z = z }) ≡ true
-unfolding legalIn
-legal-moved n t z e l = and-both _ _ (legal-page n t e) (lt-ltb z n l)
+legal-moved n t z e l = legal-fitted n (record { x = t .x; y = t .y; z = z }) (legal-page n t e) l
 
 -- on a board of d districts the blocks of a legal triple are legal
 pub legal-blocks : (d : ℕ) (t : Triple) (k : ℕ) → legalIn (4 * d) t ≡ true → legalIn (4 * d) (blockAt t k) ≡ true

@@ -1,12 +1,10 @@
 -- A user slice for character C, slice NT (0..9), in block Z.
 -- Assumes nothing.
 use Prim.Native.Nat.{ℕ, _+_, _*_}
-use Rattle.basics.specs.Choice.{pick}
 use Rattle.basics.specs.Bits.{bits}
-use Rattle.address.specs.Triples.{legalY}
-use Rattle.address.specs.Places.{placeOf}
-use Rattle.address.specs.declared.slice.SlicePlace.{SlicePlace}
-use Rattle.address.specs.declared.slice.SlicePlace.the-variants.{At, NoByte}
+use Rattle.address.specs.Addresses.{addressOf}
+use Rattle.address.specs.declared.answer.Address.{Address}
+use Rattle.address.specs.declared.triple.Triple.{Triple}
 
 -- it is at Y = C bits 6..2
 abbrev pub sliceY : ℕ → ℕ
@@ -16,6 +14,9 @@ sliceY c = bits 2 5 c
 abbrev pub sliceX : ℕ → ℕ → ℕ
 sliceX c nt = 4 * nt + bits 0 2 c
 
--- If that Y is 1..7 the slice is 0 and no byte is read
-unfoldable pub slicePlaceOf : ℕ → ℕ → ℕ → SlicePlace
-slicePlaceOf c nt z = pick (legalY (sliceY c)) (At (placeOf (sliceX c nt) (sliceY c) z)) NoByte
+-- its triple, and its address on a board of so many blocks. (If that Y is 1..7 the address is illegal; X is below 40.)
+abbrev pub sliceAt : ℕ → ℕ → ℕ → Triple
+sliceAt c nt z = record { x = sliceX c nt; y = sliceY c; z = z }
+
+unfoldable pub sliceAddress : ℕ → ℕ → ℕ → ℕ → Address
+sliceAddress blocks c nt z = addressOf blocks (sliceAt c nt z)

@@ -1,7 +1,6 @@
 // A triple X, Y, Z, and whether it is legal.
 ghost use mathlib.Core.Path.{_≡_};
 ghost use Rattle.address.specs.Triples.{legalY, legal};
-use crate::board::BLOCKS;
 
 pub struct Triple {
     pub x: u8,
@@ -22,15 +21,12 @@ pub fn is_legal_y(y: u8) -> bool
     y < 32
 }
 
-// X 0..39, Y 0 or 8..31, Z 0..15.
+// X 0..39, Y 0 or 8..31; Z is whatever a pointer can say.
 pub fn is_legal(t: Triple) -> bool
     ensures { λ r. ⌜ r ≡ legal t ⌝ }
 {
     if 40 <= t.x {
         return false;
     }
-    if is_legal_y(t.y) {
-        return t.z < BLOCKS;
-    }
-    false
+    is_legal_y(t.y)
 }

@@ -9,7 +9,7 @@ use native.Mathlib.Nat.{mul-one, mul-zero}
 use native.Mathlib.Omega.{arith}
 use lib.Dec.{ltb, leb, eqb}
 use mir.Val.{boolByte}
-use lib.ListN.{getD}
+use lib.ListN.{length, getD}
 use borrow.Author.Tests.{ne-eqb, eqb-true, leb-true, le-leb, not-false}
 use Rattle.basics.specs.Bits.{bits, isSet}
 use Rattle.basics.specs.Choice.{pick}
@@ -17,12 +17,11 @@ use Rattle.basics.specs.Below.{anyBelow}
 use Rattle.basics.proofs.Below.{any-not, any-same, any-never, any-split}
 use Rattle.basics.proofs.Computed.{agree-test}
 use Rattle.basics.proofs.Choice.{pick-either, bool-cases, lt-or-le, eq-or-ne, and-left, and-right, and-both, or-cases, or-none, or-neither}
-use Rattle.address.specs.Boards.{bytesOf}
 use Rattle.address.specs.Places.{placeOf, blockOf}
 use Rattle.address.proofs.Laws.{place-left, place-service, place-right}
 use Rattle.address.proofs.Places.{place-within}
 use Rattle.cell.specs.Cells.{isQuadrichrome}
-use Rattle.page.specs.Codes.{codeOf}
+use Rattle.page.specs.HowCodes.{codeOf, Has}
 use Rattle.page.specs.Inputs.{flashes}
 use Rattle.narrow.specs.Codes.{evenOf, oddOf, pairFlashes}
 use Rattle.keys.specs.declared.key.Keys.{Keys}
@@ -108,8 +107,10 @@ module _ (m : List ℕ) (z y first i start : ℕ) where
   unfolding codeFrom
   from-a e = rw e
 
-pub from-fits : (blocks first n y z k start : ℕ) → start ≡ placeOf first y (blockOf z k) → blockOf z k < blocks → placeOf first y 0 + n ≤ 1024 → start + n ≤ bytesOf blocks
-from-fits blocks first n y z k start e hz h = omega (arith, place-within first y (blockOf z k))
+-- it is in memory, where memory has its block
+pub from-fits :
+    (m : List ℕ) (first n y z k start : ℕ) → start ≡ placeOf first y (blockOf z k) → Has m z k → placeOf first y 0 + n ≤ 1024 → start + n ≤ length m
+from-fits m first n y z k start e hz h = omega (arith, place-within first y (blockOf z k))
 
 -- n rows that follow on have their two stretches in a block
 module _ (y n : ℕ) (high : y + n ≤ 32) where

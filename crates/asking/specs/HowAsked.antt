@@ -8,7 +8,7 @@ use lib.Dec.{eqb, leb}
 use lib.ListN.{getD}
 use Rattle.basics.specs.Below.{anyBelow}
 use Rattle.address.specs.Places.{placeOf, blockOf, byteAt}
-use Rattle.page.specs.Codes.{codeOf}
+use Rattle.page.specs.HowCodes.{codeOf}
 use Rattle.page.specs.Halves.{isTall}
 use Rattle.page.specs.Inputs.{flashes}
 use Rattle.narrow.specs.Codes.{pairFlashes}

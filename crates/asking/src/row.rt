@@ -2,9 +2,8 @@
 ghost use mathlib.Core.Path.{_≡_};
 ghost use mathlib.Core.Bool.{true, _||_};
 ghost use Prim.Native.Nat.{_+_, _≤_, _<_};
-ghost use lib.ListN.{length};
 ghost use Rattle.basics.specs.Below.{anyBelow};
-ghost use Rattle.address.specs.Boards.{boardBlocks, memoryBytes};
+ghost use Rattle.page.specs.HowCodes.{Has};
 ghost use Rattle.asking.specs.HowAsked.{tallAt, flashAt, pairFlashAt, blinkAt, characterAt, keyedAt};
 ghost use Rattle.keys.specs.HowKeys.{keysHigh};
 use crate::stretch::some_blink;
@@ -16,7 +15,7 @@ use crate::stretch::some_tall;
 use keys::key::Keys;
 
 pub fn has_tall(memory: &[u8], z: u8, y: u8) -> bool
-    requires { ⌜ (length (now memory) ≡ memoryBytes) × (z < boardBlocks) × (y < 32) ⌝ }
+    requires { ⌜ Has (now memory) z 1 × (y < 32) ⌝ }
     ensures { λ r. ⌜ r ≡ tallAt (now (memory .entry)) z y ⌝ }
 {
     if some_tall(memory, z, y, 0, 32) {
@@ -27,7 +26,7 @@ pub fn has_tall(memory: &[u8], z: u8, y: u8) -> bool
 
 // Where a row flashes, a cell on its left does most often.
 fn has_flash(memory: &[u8], z: u8, y: u8) -> bool
-    requires { ⌜ (length (now memory) ≡ memoryBytes) × (z < boardBlocks) × (y < 32) ⌝ }
+    requires { ⌜ Has (now memory) z 1 × Has (now memory) z 2 × (y < 32) ⌝ }
     ensures { λ r. ⌜ r ≡ flashAt (now (memory .entry)) z y ⌝ }
 {
     if some_flash(memory, z, y, 0, 16) {
@@ -38,30 +37,33 @@ fn has_flash(memory: &[u8], z: u8, y: u8) -> bool
 
 // In 80 columns.
 fn has_pair_flash(memory: &[u8], z: u8, y: u8) -> bool
-    requires { ⌜ (length (now memory) ≡ memoryBytes) × (z < boardBlocks) × (y < 32) ⌝ }
+    requires { ⌜ Has (now memory) z 0 × Has (now memory) z 1 × Has (now memory) z 2 × (y < 32) ⌝ }
     ensures { λ r. ⌜ r ≡ pairFlashAt (now (memory .entry)) z y ⌝ }
 {
     some_pair_flash(memory, z, y, 0, 32) | some_pair_flash(memory, z, y, 32, 8)
 }
 
 // The service row has a question of its own, so that the other rows' has one caller and is compiled into its loop.
-pub fn service_flashes(memory: &[u8], z: u8) -> bool
-    requires { ⌜ (length (now memory) ≡ memoryBytes) × (z < boardBlocks) ⌝ }
-    ensures { λ r. ⌜ r ≡ flashAt (now (memory .entry)) z 0 ⌝ }
+pub fn service_is_marked_or_flashes(memory: &[u8], z: u8, marked: bool) -> bool
+    requires { ⌜ Has (now memory) z 1 × Has (now memory) z 2 ⌝ }
+    ensures { λ r. ⌜ r ≡ (marked || flashAt (now (memory .entry)) z 0) ⌝ }
 {
+    if marked {
+        return true;
+    }
     some_flash(memory, z, 0, 0, 32) | some_flash(memory, z, 0, 32, 8)
 }
 
 // A cell of the rows with this Y and the next three has its A3 set: their bytes stand side by side, so that one look does for four rows.
 pub fn near_blinks(memory: &[u8], z: u8, y: u8) -> bool
-    requires { ⌜ (length (now memory) ≡ memoryBytes) × (z < boardBlocks) × (8 ≤ y) × (y < 29) ⌝ }
+    requires { ⌜ Has (now memory) z 2 × (8 ≤ y) × (y < 29) ⌝ }
     ensures { λ r. ⌜ r ≡ anyBelow (λ k. blinkAt (now (memory .entry)) z (y + k)) 4 ⌝ }
 {
     some_blink(memory, z, y, 0, 128) | some_blink(memory, z, y, 32, 32)
 }
 
 fn has_character(memory: &[u8], z: u8, y: u8, t: u8) -> bool
-    requires { ⌜ (length (now memory) ≡ memoryBytes) × (z < boardBlocks) × (y < 32) ⌝ }
+    requires { ⌜ Has (now memory) z 0 × Has (now memory) z 1 × (y < 32) ⌝ }
     ensures { λ r. ⌜ r ≡ characterAt (now (memory .entry)) z y t ⌝ }
 {
     some_character(memory, z, y, 0, 32, t) | some_character(memory, z, y, 32, 8, t)
@@ -69,7 +71,7 @@ fn has_character(memory: &[u8], z: u8, y: u8, t: u8) -> bool
 
 // The service row: its forty bytes in a block stand side by side.
 pub fn service_has(memory: &[u8], z: u8, t: u8) -> bool
-    requires { ⌜ (length (now memory) ≡ memoryBytes) × (z < boardBlocks) ⌝ }
+    requires { ⌜ Has (now memory) z 0 × Has (now memory) z 1 ⌝ }
     ensures { λ r. ⌜ r ≡ characterAt (now (memory .entry)) z 0 t ⌝ }
 {
     some_character(memory, z, 0, 0, 40, t)
@@ -77,7 +79,7 @@ pub fn service_has(memory: &[u8], z: u8, t: u8) -> bool
 
 // One look for the rows with this Y and the next.
 pub fn near_has(memory: &[u8], z: u8, y: u8, t: u8) -> bool
-    requires { ⌜ (length (now memory) ≡ memoryBytes) × (z < boardBlocks) × (8 ≤ y) × (y < 31) ⌝ }
+    requires { ⌜ Has (now memory) z 0 × Has (now memory) z 1 × (8 ≤ y) × (y < 31) ⌝ }
     ensures { λ r. ⌜ r ≡ anyBelow (λ k. characterAt (now (memory .entry)) z (y + k) t) 2 ⌝ }
 {
     some_character(memory, z, y, 0, 64, t) | some_character(memory, z, y, 32, 16, t)
@@ -85,7 +87,7 @@ pub fn near_has(memory: &[u8], z: u8, y: u8, t: u8) -> bool
 
 // Most rows do not have the character at all: that is asked before the parts of B.
 fn has_keyed(memory: &[u8], z: u8, y: u8, keys: Keys) -> bool
-    requires { ⌜ (length (now memory) ≡ memoryBytes) × (z < boardBlocks) × (y < 32) × (keysHigh keys ≡ true) ⌝ }
+    requires { ⌜ Has (now memory) z 0 × Has (now memory) z 1 × (y < 32) × (keysHigh keys ≡ true) ⌝ }
     ensures { λ r. ⌜ r ≡ keyedAt keys (now (memory .entry)) z y ⌝ }
 {
     if has_character(memory, z, y, keys.character) {
@@ -96,7 +98,7 @@ fn has_keyed(memory: &[u8], z: u8, y: u8, keys: Keys) -> bool
 
 // The row is marked, or it flashes.
 pub fn is_marked_or_flashes(memory: &[u8], z: u8, y: u8, marked: bool) -> bool
-    requires { ⌜ (length (now memory) ≡ memoryBytes) × (z < boardBlocks) × (y < 32) ⌝ }
+    requires { ⌜ Has (now memory) z 1 × Has (now memory) z 2 × (y < 32) ⌝ }
     ensures { λ r. ⌜ r ≡ (marked || flashAt (now (memory .entry)) z y) ⌝ }
 {
     if marked {
@@ -107,7 +109,7 @@ pub fn is_marked_or_flashes(memory: &[u8], z: u8, y: u8, marked: bool) -> bool
 
 // The row is marked, or it flashes in 80 columns.
 pub fn is_marked_or_pair_flashes(memory: &[u8], z: u8, y: u8, marked: bool) -> bool
-    requires { ⌜ (length (now memory) ≡ memoryBytes) × (z < boardBlocks) × (y < 32) ⌝ }
+    requires { ⌜ Has (now memory) z 0 × Has (now memory) z 1 × Has (now memory) z 2 × (y < 32) ⌝ }
     ensures { λ r. ⌜ r ≡ (marked || pairFlashAt (now (memory .entry)) z y) ⌝ }
 {
     if marked {
@@ -118,7 +120,7 @@ pub fn is_marked_or_pair_flashes(memory: &[u8], z: u8, y: u8, marked: bool) -> b
 
 // The row is marked, or the keys fit a cell of it.
 pub fn is_marked_or_keyed(memory: &[u8], z: u8, y: u8, keys: Keys, marked: bool) -> bool
-    requires { ⌜ (length (now memory) ≡ memoryBytes) × (z < boardBlocks) × (y < 32) × (keysHigh keys ≡ true) ⌝ }
+    requires { ⌜ Has (now memory) z 0 × Has (now memory) z 1 × (y < 32) × (keysHigh keys ≡ true) ⌝ }
     ensures { λ r. ⌜ r ≡ (marked || keyedAt keys (now (memory .entry)) z y) ⌝ }
 {
     if marked {

@@ -3,12 +3,10 @@
 // Each loop gathers and goes to its end, so that it can be compiled to ask many bytes at once.
 ghost use mathlib.Core.Path.{_≡_};
 ghost use Prim.Native.Nat.{_+_, _%_, _<_, _≤_};
-ghost use lib.ListN.{length};
 ghost use Rattle.basics.specs.Choice.{pick};
 ghost use Rattle.basics.specs.Below.{anyBelow};
-ghost use Rattle.address.specs.Boards.{boardBlocks, memoryBytes};
 ghost use Rattle.address.specs.Places.{placeOf};
-ghost use Rattle.page.specs.Codes.{codeOf};
+ghost use Rattle.page.specs.HowCodes.{codeOf, Has};
 ghost use Rattle.page.specs.Halves.{isTall};
 ghost use Rattle.page.specs.Inputs.{flashes};
 ghost use Rattle.narrow.specs.Codes.{pairFlashes};
@@ -20,7 +18,7 @@ use page::stretch::starts_of;
 
 // A cell of double height.
 pub fn some_tall(memory: &[u8], z: u8, y: u8, first: u16, n: usize) -> bool
-    requires { ⌜ (length (now memory) ≡ memoryBytes) × (z < boardBlocks) × (y < 32) × (first + n ≤ 40) × (first % 32 + n ≤ 32) ⌝ }
+    requires { ⌜ Has (now memory) z 1 × (y < 32) × (first + n ≤ 40) × (first % 32 + n ≤ 32) ⌝ }
     ensures { λ r. ⌜ r ≡ anyBelow (λ i. isTall (codeOf (now (memory .entry)) z y (first + i))) n ⌝ }
 {
     let b = start(z, y, first, 1);
@@ -34,7 +32,7 @@ pub fn some_tall(memory: &[u8], z: u8, y: u8, first: u16, n: usize) -> bool
 
 // A cell that flashes.
 pub fn some_flash(memory: &[u8], z: u8, y: u8, first: u16, n: usize) -> bool
-    requires { ⌜ (length (now memory) ≡ memoryBytes) × (z < boardBlocks) × (y < 32) × (first + n ≤ 40) × (first % 32 + n ≤ 32) ⌝ }
+    requires { ⌜ Has (now memory) z 1 × Has (now memory) z 2 × (y < 32) × (first + n ≤ 40) × (first % 32 + n ≤ 32) ⌝ }
     ensures { λ r. ⌜ r ≡ anyBelow (λ i. flashes (codeOf (now (memory .entry)) z y (first + i))) n ⌝ }
 {
     let b = start(z, y, first, 1);
@@ -48,7 +46,7 @@ pub fn some_flash(memory: &[u8], z: u8, y: u8, first: u16, n: usize) -> bool
 
 // In 80 columns: a column of whose two cells one flashes. The attributes of both are halves of one byte.
 pub fn some_pair_flash(memory: &[u8], z: u8, y: u8, first: u16, n: usize) -> bool
-    requires { ⌜ (length (now memory) ≡ memoryBytes) × (z < boardBlocks) × (y < 32) × (first + n ≤ 40) × (first % 32 + n ≤ 32) ⌝ }
+    requires { ⌜ Has (now memory) z 0 × Has (now memory) z 1 × Has (now memory) z 2 × (y < 32) × (first + n ≤ 40) × (first % 32 + n ≤ 32) ⌝ }
     ensures { λ r. ⌜ r ≡ anyBelow (λ i. pairFlashes (codeOf (now (memory .entry)) z y (first + i))) n ⌝ }
 {
     let here = starts_of(z, y, first);
@@ -64,7 +62,7 @@ pub fn some_pair_flash(memory: &[u8], z: u8, y: u8, first: u16, n: usize) -> boo
 
 // A cell whose A3 is set, whatever its B is: half the bytes of the question whether one flashes. The stretch may go over several rows.
 pub fn some_blink(memory: &[u8], z: u8, y: u8, first: u16, n: usize) -> bool
-    requires { ⌜ (length (now memory) ≡ memoryBytes) × (z < boardBlocks) × (placeOf first y 0 + n ≤ 1024) ⌝ }
+    requires { ⌜ Has (now memory) z 2 × (placeOf first y 0 + n ≤ 1024) ⌝ }
     ensures { λ r. ⌜ r ≡ anyBelow (λ i. blinks (codeFrom (now (memory .entry)) z y first i)) n ⌝ }
 {
     let a = start(z, y, first, 2);
@@ -85,7 +83,7 @@ fn taken(fits: bool, byte: u8) -> u8
 // A cell whose C is the character, and whose B is not that of a cell from the ROM. The stretch may go over several rows. The B bytes of the cells with the
 // character are gathered by their bits, and bit 7 is looked at once, at the end.
 pub fn some_character(memory: &[u8], z: u8, y: u8, first: u16, n: usize, t: u8) -> bool
-    requires { ⌜ (length (now memory) ≡ memoryBytes) × (z < boardBlocks) × (placeOf first y 0 + n ≤ 1024) ⌝ }
+    requires { ⌜ Has (now memory) z 0 × Has (now memory) z 1 × (placeOf first y 0 + n ≤ 1024) ⌝ }
     ensures { λ r. ⌜ r ≡ anyBelow (λ i. showsCharacter t (codeFrom (now (memory .entry)) z y first i)) n ⌝ }
 {
     let c = start(z, y, first, 0);
@@ -99,7 +97,7 @@ pub fn some_character(memory: &[u8], z: u8, y: u8, first: u16, n: usize, t: u8) 
 
 // A cell that the keys fit.
 pub fn some_keyed(memory: &[u8], z: u8, y: u8, first: u16, n: usize, keys: Keys) -> bool
-    requires { ⌜ (length (now memory) ≡ memoryBytes) × (z < boardBlocks) × (y < 32) × (first + n ≤ 40) × (first % 32 + n ≤ 32) ⌝ }
+    requires { ⌜ Has (now memory) z 0 × Has (now memory) z 1 × (y < 32) × (first + n ≤ 40) × (first % 32 + n ≤ 32) ⌝ }
     ensures { λ r. ⌜ r ≡ anyBelow (λ i. keyed keys (codeOf (now (memory .entry)) z y (first + i))) n ⌝ }
 {
     let c = start(z, y, first, 0);

@@ -8,10 +8,10 @@ use mathlib.Core.List.{List}
 use mathlib.Core.Logic.{_≢_}
 use native.Mathlib.Omega.{arith}
 use lib.Dec.{eqb}
-use lib.ListN.{length, set}
+use lib.ListN.{length, getD, set}
 use lib.Seq.{take-set-lt, drop-set-lt, getD-set-other}
-use borrow.Author.Tests.{eqb-true}
-use Rattle.address.specs.Boards.{memoryBytes}
+use borrow.Author.Tests.{eq-eqb, ne-eqb, eqb-true}
+use Rattle.address.specs.Boards.{bytesOf, fullBoard}
 use Rattle.basics.specs.Bits.{bits}
 use Rattle.basics.specs.Choice.{pick}
 use Rattle.basics.proofs.Choice.{and-left, and-right}
@@ -22,11 +22,15 @@ use Rattle.processor.specs.States.{Chip, chip, withRegister, registerRead}
 use Rattle.processor.specs.Access.{Outcome, outcomeOf, written, readOut}
 use Rattle.kept.specs.Orders.{isEarly}
 use Rattle.kept.proofs.Plain.{plain-written, plain-read}
-use Rattle.kept.proofs.Walk.{Ends, write-known}
+use Rattle.kept.proofs.Walk.{Ends, afterWrite, write-known}
 use Rattle.packing.specs.Layouts.{packed, unpacked}
 use Rattle.binturamis.specs.Calls.{word, isRefusal, called, callOf}
 use Rattle.binturamis.proofs.Calls.{call-made}
 use Rattle.binturamis.proofs.Leaving.{accepted-packed}
+
+-- a processor of another board
+abbrev withBlocks : Processor → ℕ → Processor
+withBlocks p n = record { registers = p .registers; indirect = p .indirect; lxm = p .lxm; lxa = p .lxa; phase = p .phase; marks = p .marks; blocks = n }
 
 -- a register written in the bytes is the register written
 unpacked-set : (bytes : List ℕ) (n v : ℕ) → n < 8 → unpacked (set bytes n v) ≡ withRegister (unpacked bytes) n v
@@ -39,55 +43,70 @@ unpacked-set bytes n v h =
       getD-set-other bytes n 16 v 0 (λ e. omega arith),
       getD-set-other bytes n 17 v 0 (λ e. omega arith),
       getD-set-other bytes n 18 v 0 (λ e. omega arith),
+      getD-set-other bytes n 44 v 0 (λ e. omega arith),
     )
 
-module _ (address : ℕ) (m : List ℕ) (plain : Bool) (test : plain ≡ (eqb (length m) memoryBytes && eqb (address / 8) 4)) (taken : plain ≡ true) where
-  both : (eqb (length m) memoryBytes && eqb (address / 8) 4) ≡ true
+-- bytes that have 0 for the board
+pub full-board : (bytes : List ℕ) → getD bytes 44 0 ≡ 0 → fullBoard ≡ unpacked bytes .blocks
+unfolding unpacked
+full-board bytes z = rw z
+
+pub full-made : (p : Processor) (bytes : List ℕ) → p ≡ unpacked bytes → getD bytes 44 0 ≡ 0 → withBlocks p fullBoard ≡ unpacked bytes
+full-made p bytes e z = rw (e, full-board bytes z)
+
+pub still-full : (bytes : List ℕ) (n v : ℕ) → n < 8 → getD bytes 44 0 ≡ 0 → getD (set bytes n v) 44 0 ≡ 0
+still-full bytes n v h z = getD-set-other bytes n 44 v 0 (λ e. omega arith) ∙ z
+
+-- the test of a plain access
+module _ (m : List ℕ) (blocks address : ℕ) (plain : Bool) (test : plain ≡ (eqb (length m) (bytesOf blocks) && eqb (address / 8) 4)) (taken : plain ≡ true) where
+  both : (eqb (length m) (bytesOf blocks) && eqb (address / 8) 4) ≡ true
   both = sym test ∙ taken
 
-  right : length m ≡ memoryBytes
-  right = eqb-true (length m) memoryBytes (and-left (eqb (length m) memoryBytes) (eqb (address / 8) 4) both)
+  pub plain-length : length m ≡ bytesOf blocks
+  plain-length = eqb-true (length m) (bytesOf blocks) (and-left (eqb (length m) (bytesOf blocks)) (eqb (address / 8) 4) both)
 
-  four : address / 8 ≡ 4
-  four = eqb-true (address / 8) 4 (and-right (eqb (length m) memoryBytes) (eqb (address / 8) 4) both)
+  pub plain-address : address / 8 ≡ 4
+  plain-address = eqb-true (address / 8) 4 (and-right (eqb (length m) (bytesOf blocks)) (eqb (address / 8) 4) both)
 
+module _ (address : ℕ) (m bytes : List ℕ) (right : length m ≡ bytesOf (unpacked bytes .blocks)) (four : address / 8 ≡ 4) where
   -- the calls
   pub plain-write-made :
-      (v : ℕ) (bytes b : List ℕ) (p : Processor) → p ≡ unpacked (set bytes (address % 8) v) → b ≡ packed p
+      (v : ℕ) (b : List ℕ) (p : Processor) → p ≡ unpacked (set bytes (address % 8) v) → b ≡ packed p
       → called b m 0 ≡ callOf isEarly bytes (written address v (chip (unpacked bytes) m))
-  plain-write-made v bytes b p ep eb =
+  plain-write-made v b p ep eb =
       let n = address % 8 in
       let p = withRegister (unpacked bytes) n v in
       ap (λ (c : List ℕ). called c m 0) (eb ∙ ap packed (ep ∙ unpacked-set bytes n v (omega arith)) ∙ accepted-packed bytes p)
-      ∙ sym (ap (callOf isEarly bytes) (plain-written address m right four v (unpacked bytes)))
+      ∙ sym (ap (callOf isEarly bytes) (plain-written address m (unpacked bytes) right four v))
 
   pub plain-read-made :
-      (bytes b : List ℕ) (p : Processor) (v : ℕ) → p ≡ unpacked bytes → b ≡ packed p → v ≡ registerRead p (address % 8)
+      (b : List ℕ) (p : Processor) (v : ℕ) → p ≡ unpacked bytes → b ≡ packed p → v ≡ registerRead p (address % 8)
       → called b m v ≡ callOf isRefusal bytes (readOut address (chip (unpacked bytes) m))
-  plain-read-made bytes b p v ep eb ev = rw (plain-read address m right four (unpacked bytes), ← ep, ← eb, ← ev) (ap (called b m) (omega arith))
+  plain-read-made b p v ep eb ev = rw (plain-read address m (unpacked bytes) right four, ← ep, ← eb, ← ev) (ap (called b m) (omega arith))
 
 -- a write that is refused by 1 or 2 leaves everything alone, and any other leaves the processor packed; w is the answer of the former
 module _ (address v : ℕ) (m bytes : List ℕ) (w : ℕ)
-    (is : w ≡ pick (eqb (length m) memoryBytes) (pick (eqb (bits 4 4 address) 2) 0 (word 2 0)) (word 1 0)) where
+    (is : w ≡ pick (eqb (length m) (bytesOf (unpacked bytes .blocks))) (pick (eqb (bits 4 4 address) 2) 0 (word 2 0)) (word 1 0)) where
   abbrev before : Chip
   before = chip (unpacked bytes) m
 
   abbrev Early : Outcome → Type 0
   Early o = (w ≢ 0 → called bytes m w ≡ callOf isEarly bytes o) × (w ≡ 0 → isEarly (numberOf (o .answer)) ≡ false)
 
-  ends : (p : Processor) → Ends address 0 before p Early
-  ends p =
+  ends : Ends address 0 before (afterWrite address v before) Early
+  ends =
       record {
         wrong-memory = λ l. let one = rw l at is in ((λ n. rw one), (λ z. absurd (omega arith)));
         wrong-address = λ l a. let two = rw (l, a) at is in ((λ n. rw two), (λ z. absurd (omega arith)));
         not-executed = λ l a x. ((λ n. absurd (n (rw (l, a) at is))), (λ q. refl));
         not-listed = λ l a x u. ((λ n. absurd (n (rw (l, a) at is))), (λ q. refl));
         bad-pointer = λ l a x u s. ((λ n. absurd (n (rw (l, a) at is))), (λ q. refl));
-        accepted = λ l a x u s. ((λ n. absurd (n (rw (l, a) at is))), (λ q. refl));
+        not-fitted = λ l a x u s f. ((λ n. absurd (n (rw (l, a) at is))), (λ q. refl));
+        accepted = λ l a x u s f. ((λ n. absurd (n (rw (l, a) at is))), (λ q. refl));
       }
 
   told : Early (written address v before)
-  told = write-known Early address v before (ends _)
+  told = write-known Early address v before ends
 
   pub early-made : w ≢ 0 → called bytes m w ≡ callOf isEarly bytes (written address v before)
   early-made n = told .0 n
@@ -100,3 +119,27 @@ module _ (address v : ℕ) (m bytes : List ℕ) (w : ℕ)
       let same = er ∙ ap (λ (q : Processor). written address v (chip q m)) ep in
       let late = ap (λ (o : Outcome). isEarly (numberOf (o .answer))) same ∙ told .1 z in
       call-made isEarly (written address v) bytes m p r after b answer ep er (rw late eb) ea
+
+-- a write on 16 blocks whose memory is as long as they are: 2, and one that is not refused by it
+module _ (address v : ℕ) (m bytes : List ℕ) (z : getD bytes 44 0 ≡ 0) where
+  abbrev after : Outcome
+  after = written address v (chip (unpacked bytes) m)
+
+  module _ (e : length m ≡ bytesOf fullBoard) where
+    pub full-length : length m ≡ bytesOf (unpacked bytes .blocks)
+    full-length = rw (← full-board bytes z) e
+
+    module _ (small : address < 256) where
+      pub full-address-made : (address / 16 ≡ 2 → ⊥) → called bytes m 131072 ≡ callOf isEarly bytes after
+      full-address-made n =
+          early-made address v m bytes 131072
+          (rw (← full-board bytes z, eq-eqb (length m) (bytesOf fullBoard) e, ne-eqb (bits 4 4 address) 2 (λ q. n (omega arith))))
+          (λ q. omega arith)
+
+      pub full-late-made :
+          address / 16 ≡ 2 → (p : Processor) (r : Answered) (left b : List ℕ) (answer : ℕ) → p ≡ unpacked bytes →
+          outcomeOf r left ≡ written address v (chip p m) → b ≡ packed (r .processor) → answer ≡ word (numberOf (r .answer)) (valueOf (r .answer)) →
+          called b left answer ≡ callOf isEarly bytes after
+      full-late-made two p r left b answer =
+          late-made address v m bytes 0
+          (rw (← full-board bytes z, eq-eqb (length m) (bytesOf fullBoard) e, eq-eqb (bits 4 4 address) 2 (omega arith))) p r left b answer refl

@@ -1,4 +1,4 @@
--- Calls in a row from power-up leave the memory and the picture of the same run of operations, and 64 bytes that hold its processor; and
+-- Calls in a row from the power-up of a board leave the memory and the picture of the same run of operations, and 64 bytes that hold its processor; and
 -- they answer what it answers: so what is proved of every run holds of the calls.
 -- Assumes nothing.
 use Prim.Native.Nat.{ℕ}
@@ -10,10 +10,12 @@ use lib.Dec.{eqb}
 use borrow.Author.Tests.{eqb-true}
 use Rattle.basics.specs.Choice.{pick}
 use Rattle.basics.proofs.Choice.{or-cases, pick-same}
+use Rattle.address.specs.Boards.{isBoard}
 use Rattle.processor.specs.declared.state.Processor.{Processor}
 use Rattle.processor.specs.Sizes.{Sized}
 use Rattle.kept.specs.Orders.{isEarly, isLate}
 use Rattle.kept.specs.Runs.{Operation, write, read, turn, draw, World, first, step, run, done, registered}
+use Rattle.kept.proofs.Boards.{board-stays, power-up-blocks}
 use Rattle.kept.proofs.Refusals.{refusal-leaves}
 use Rattle.kept.proofs.Sizes.{step-sized, run-sized, power-up-sized}
 use Rattle.packing.specs.Layouts.{packed, unpacked}
@@ -28,7 +30,7 @@ alone : (unchanged : Bool) (p q : Processor) → (unchanged ≡ true → q ≡ p
 alone true p q e = ap packed (sym (e refl))
 alone false p q e = refl
 
--- 1 and 2 are not 3 or 4
+-- 1 and 2 are not 3, 4 or 11
 early-not-late : (n : ℕ) (p q : Processor) → isEarly n ≡ true → pick (isLate n) p q ≡ q
 early-not-late n p q e =
     ⊎-elim (λ o. rw (eqb-true n 1 o)) (λ t. rw (eqb-true n 2 t)) (or-cases (eqb n 1) (eqb n 2) e)
@@ -42,35 +44,49 @@ stays (read x address) w e = refusal-leaves (read x address) w (refusal-refuses 
 stays (turn x n) w e = refusal-leaves (turn x n) w (refusal-refuses _ e) .0 ∙ pick-same (isLate (done (turn x n) w .number)) (w .processor)
 stays (draw x y z) w e = refusal-leaves (draw x y z) w (refusal-refuses _ e) .0 ∙ pick-same (isLate (done (draw x y z) w .number)) (w .processor)
 
+-- the processor is one of a board, and stays one
+abbrev Board : World → Type 0
+Board w = isBoard (w .processor .blocks) ≡ true
+
+board-after : (os : List Operation) (w : World) → Board w → Board (run os w)
+board-after os w b = rw (board-stays os w) b
+
 -- one call on a processor that is packed is the operation on it
 abbrev doneBy : Operation → World → CallDone
 doneBy o w =
     let d = done o w in
     record { bytes = packed (d .processor); memory = d .memory; picture = d .picture; number = d .number; answer = word (d .number) (d .value) }
 
-call-done : (o : Operation) (w : World) → Sized (w .processor) → calledBy o (callerOf w) ≡ doneBy o w
-call-done (write x address v) w s = rw (unpacked-packed (w .processor) s, alone (isEarly (done (write x address v) w .number)) (w .processor) _ (stays (write x address v) w))
-call-done (read x address) w s = rw (unpacked-packed (w .processor) s, alone (isRefusal (done (read x address) w .number)) (w .processor) _ (stays (read x address) w))
-call-done (turn x n) w s = rw (unpacked-packed (w .processor) s, alone (isRefusal (done (turn x n) w .number)) (w .processor) _ (stays (turn x n) w))
-call-done (draw x y z) w s = rw (unpacked-packed (w .processor) s, alone (isRefusal (done (draw x y z) w .number)) (w .processor) _ (stays (draw x y z) w))
+call-done : (o : Operation) (w : World) → Sized (w .processor) → Board w → calledBy o (callerOf w) ≡ doneBy o w
+call-done (write x address v) w s b = rw (unpacked-packed (w .processor) s b, alone (isEarly (done (write x address v) w .number)) (w .processor) _ (stays (write x address v) w))
+call-done (read x address) w s b = rw (unpacked-packed (w .processor) s b, alone (isRefusal (done (read x address) w .number)) (w .processor) _ (stays (read x address) w))
+call-done (turn x n) w s b = rw (unpacked-packed (w .processor) s b, alone (isRefusal (done (turn x n) w .number)) (w .processor) _ (stays (turn x n) w))
+call-done (draw x y z) w s b = rw (unpacked-packed (w .processor) s b, alone (isRefusal (done (draw x y z) w .number)) (w .processor) _ (stays (draw x y z) w))
 
-call-step : (o : Operation) (w : World) → Sized (w .processor) → call o (callerOf w) ≡ callerOf (step o w)
-call-step o w s = rw (call-done o w s)
+call-step : (o : Operation) (w : World) → Sized (w .processor) → Board w → call o (callerOf w) ≡ callerOf (step o w)
+call-step o w s b = rw (call-done o w s b)
 
-calls-from : (os : List Operation) (w : World) → Sized (w .processor) → calls os (callerOf w) ≡ callerOf (run os w)
-calls-from [] w s = refl
-calls-from (o ∷ os) w s = ap (calls os) (call-step o w s) ∙ calls-from os (step o w) (step-sized o w s)
+calls-from : (os : List Operation) (w : World) → Sized (w .processor) → Board w → calls os (callerOf w) ≡ callerOf (run os w)
+calls-from [] w s b = refl
+calls-from (o ∷ os) w s b = ap (calls os) (call-step o w s b) ∙ calls-from os (step o w) (step-sized o w s) (board-after (o ∷ []) w b)
 
 -- from power-up
+board-first : (blocks : ℕ) (m rom picture : List ℕ) → isBoard blocks ≡ true → Board (first blocks m rom picture)
+board-first blocks m rom picture b = rw (power-up-blocks blocks) b
+
 pub calls-run : CallsRun
-calls-run os m rom picture = calls-from os (first m rom picture) power-up-sized
+calls-run os blocks m rom picture b =
+    calls-from os (first blocks m rom picture) (power-up-sized blocks) (board-first blocks m rom picture b)
 
 pub calls-hold : CallsHold
-calls-hold os m rom picture =
-    ap (λ (b : Caller). unpacked (b .bytes)) (calls-run os m rom picture)
-    ∙ unpacked-packed (run os (first m rom picture) .processor) (run-sized os (first m rom picture) power-up-sized)
+calls-hold os blocks m rom picture b =
+    let w = first blocks m rom picture in
+    ap (λ (b : Caller). unpacked (b .bytes)) (calls-run os blocks m rom picture b)
+    ∙ unpacked-packed (run os w .processor) (run-sized os w (power-up-sized blocks)) (board-after os w (board-first blocks m rom picture b))
 
 pub calls-answer : CallsAnswer
-calls-answer os o m rom picture =
-    ap (λ (b : Caller). calledBy o b .answer) (calls-run os m rom picture)
-    ∙ ap (λ (d : CallDone). d .answer) (call-done o (run os (first m rom picture)) (run-sized os (first m rom picture) power-up-sized))
+calls-answer os o blocks m rom picture b =
+    let w = first blocks m rom picture in
+    ap (λ (b : Caller). calledBy o b .answer) (calls-run os blocks m rom picture b)
+    ∙ ap (λ (d : CallDone). d .answer)
+    (call-done o (run os w) (run-sized os w (power-up-sized blocks)) (board-after os w (board-first blocks m rom picture b)))

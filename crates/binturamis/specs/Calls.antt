@@ -15,7 +15,7 @@ use Rattle.packing.specs.Layouts.{packed}
 abbrev pub word : ℕ → ℕ → ℕ
 word number value = 65536 * number + value
 
--- a number that refuses. (A write's 3 and 4 come after its register is written: isEarly, kept/specs/Orders, are those that come before.)
+-- a number that refuses. (A write's 3, 4 and 11 come after its register is written: isEarly, kept/specs/Orders, are those that come before.)
 abbrev pub isRefusal : ℕ → Bool
 isRefusal n = not (eqb n 0)
 

@@ -3,29 +3,37 @@
 // they leave the state alone.
 ghost use mathlib.Core.Path.{_≡_};
 ghost use mathlib.Core.Bool.{_&&_};
-ghost use Prim.Native.Nat.{_/_};
+ghost use Prim.Native.Nat.{_+_, _/_, _%_};
 ghost use lib.Dec.{eqb};
 ghost use Rattle.basics.specs.Bits.{bits};
 ghost use Rattle.basics.specs.Choice.{pick};
-ghost use Rattle.address.specs.Boards.{memoryBytes};
+ghost use Rattle.address.specs.Boards.{bytesOf};
 ghost use Rattle.binturamis.specs.Calls.{word};
-use address::board::MEMORY_BYTES;
+use address::board::bytes_of;
 
 // 4 times 8 is 2 in the address's high four bits with bit 3, which asks for execution, clear.
-pub fn is_plain(memory: usize, address: u8) -> bool
-    ensures { λ r. ⌜ r ≡ (eqb memory memoryBytes && eqb (address / 8) 4) ⌝ }
+pub fn is_plain(memory: usize, blocks: u8, address: u8) -> bool
+    ensures { λ r. ⌜ r ≡ (eqb memory (bytesOf blocks) && eqb (address / 8) 4) ⌝ }
 {
-    if memory == MEMORY_BYTES {
+    if memory == bytes_of(blocks) {
         return address / 8 == 4;
     }
     false
 }
 
-// The answer of an access that is refused by 1 or 2; 0 for any other.
-pub fn early(memory: usize, address: u8) -> u32
-    ensures { λ r. ⌜ r ≡ pick (eqb memory memoryBytes) (pick (eqb (bits 4 4 address) 2) 0 (word 2 0)) (word 1 0) ⌝ }
+// How far an address is past 20 hex, round 256. Below 8 it is plain, and from 16 on it is refused by 2. (One subtraction, which is the register
+// too: the same tests by the address's bits take two instructions more.)
+pub fn past_32(address: u8) -> u8
+    ensures { λ r. ⌜ r ≡ (address + 224) % 256 ⌝ }
 {
-    if memory != MEMORY_BYTES {
+    ((address as u16 + 224) % 256) as u8
+}
+
+// The answer of an access that is refused by 1 or 2; 0 for any other.
+pub fn early(memory: usize, blocks: u8, address: u8) -> u32
+    ensures { λ r. ⌜ r ≡ pick (eqb memory (bytesOf blocks)) (pick (eqb (bits 4 4 address) 2) 0 (word 2 0)) (word 1 0) ⌝ }
+{
+    if memory != bytes_of(blocks) {
         return 65536;
     }
     if address / 16 != 2 {

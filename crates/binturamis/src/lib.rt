@@ -2,20 +2,26 @@
 // what it leaves, so that any 64 bytes get an answer; those of a power-up or of an earlier call mean the processor that it left. Where
 // a refusal has changed nothing, nothing is written.
 ghost use mathlib.Core.Path.{_≡_};
+ghost use Rattle.command.specs.Answers.{powerNumberOf};
 ghost use Rattle.processor.specs.States.{chip, powerUp};
+ghost use Rattle.processor.specs.PowerUps.{poweredUpBoard};
 ghost use Rattle.processor.specs.Access.{written, readOut, turned};
 ghost use Rattle.processor.specs.Draws.{drawn};
 ghost use Rattle.packing.specs.Layouts.{packed, unpacked};
 ghost use Rattle.packing.specs.Reports.{reported};
 ghost use Rattle.kept.specs.Orders.{isEarly};
-ghost use Rattle.binturamis.specs.Calls.{isRefusal, called, callOf, drawCalled, drawCallOf};
+ghost use Rattle.binturamis.specs.Calls.{word, isRefusal, called, callOf, drawCalled, drawCallOf};
 
 mod access;
+mod board;
 mod leave;
 mod word;
 
-use access::early;
 use access::is_plain;
+use access::past_32;
+use address::board::MEMORY_BYTES;
+use board::unpacked_full;
+use board::write_on_board;
 use leave::leave;
 use leave::leave_drawn;
 use leave::leave_written;
@@ -23,8 +29,9 @@ use packing::layout::packed;
 use packing::layout::unpacked;
 use packing::report::reported;
 use processor::state::Processor;
+use word::power_word;
 
-// Power-up, whatever the bytes held.
+// Power-up of 16 blocks, whatever the bytes held.
 #[no_mangle]
 pub extern "C" fn binturamis_power_up(p: &mut [u8; 64])
     ensures { λ r. ⌜ now (p .exit) ≡ packed powerUp ⌝ }
@@ -32,7 +39,19 @@ pub extern "C" fn binturamis_power_up(p: &mut [u8; 64])
     *p = packed(Processor::power_up());
 }
 
-// A register is written; then the command runs, if the address asks for it. A plain write stores in place.
+// Power-up of a board that the caller names, whatever the bytes held.
+#[no_mangle]
+pub extern "C" fn binturamis_power_up_board(p: &mut [u8; 64], blocks: u8) -> u32
+    ensures { λ r. ⌜ (now (p .exit) ≡ packed (poweredUpBoard blocks .processor)) × (r ≡ word (powerNumberOf (poweredUpBoard blocks .answer)) 0) ⌝ }
+{
+    let powered = Processor::power_up_board(blocks);
+    let first = powered.processor;
+    let answer = powered.answer;
+    *p = packed(first);
+    power_word(answer)
+}
+
+// A register is written; then the command runs, if the address asks for it. On 16 blocks, with 0 for the board, a plain write stores in place.
 #[no_mangle]
 pub extern "C" fn binturamis_write(
     p: &mut [u8; 64],
@@ -42,17 +61,25 @@ pub extern "C" fn binturamis_write(
 ) -> u32
     ensures { λ r. ⌜ called (now (p .exit)) (now (memory .exit)) r ≡ callOf isEarly (now (p .entry)) (written address value (chip (unpacked (now (p .entry))) (now (memory .entry)))) ⌝ }
 {
-    if is_plain(memory.len(), address) {
-        let n = (address % 8) as usize;
-        p[n] = value;
-        *p = packed(unpacked(*p));
+    if memory.len() != MEMORY_BYTES {
+        return write_on_board(p, memory, address, value);
+    }
+    let n = past_32(address);
+    if n < 8 {
+        if p[44] != 0 {
+            return write_on_board(p, memory, address, value);
+        }
+        p[n as usize] = value;
+        *p = packed(unpacked_full(*p));
         return 0;
     }
-    let refused = early(memory.len(), address);
-    if refused != 0 {
-        return refused;
+    if p[44] != 0 {
+        return write_on_board(p, memory, address, value);
     }
-    let answered = unpacked(*p).write(memory, address, value);
+    if 15 < n {
+        return 131072;
+    }
+    let answered = unpacked_full(*p).write(memory, address, value);
     leave_written(p, answered)
 }
 
@@ -62,7 +89,7 @@ pub extern "C" fn binturamis_read(p: &mut [u8; 64], memory: &mut [u8], address: 
     ensures { λ r. ⌜ called (now (p .exit)) (now (memory .exit)) r ≡ callOf isRefusal (now (p .entry)) (readOut address (chip (unpacked (now (p .entry))) (now (memory .entry)))) ⌝ }
 {
     let before = unpacked(*p);
-    if is_plain(memory.len(), address) {
+    if is_plain(memory.len(), before.blocks, address) {
         *p = packed(before);
         return before.register(address) as u32;
     }

@@ -6,13 +6,15 @@ use mathlib.Core.Bool.{true, false}
 use mathlib.Core.List.{List, [], _∷_, _++_, map}
 use Rattle.basics.specs.Below.{countBelow, lastBelow}
 use Rattle.basics.specs.Parts.{joined}
-use Rattle.address.specs.Triples.{legalY}
+use Rattle.address.specs.Addresses.{addressOf}
+use Rattle.address.specs.Boards.{fullBoard}
+use Rattle.address.specs.Triples.{legalY, onPage}
 use Rattle.address.specs.Pointers.{mainPointer}
 use Rattle.address.specs.Places.{placeOf}
 use Rattle.address.specs.Rows.{rowY}
-use Rattle.address.specs.Slices.{slicePlaceOf}
-use Rattle.address.specs.declared.slice.SlicePlace.{SlicePlace}
-use Rattle.address.specs.declared.slice.SlicePlace.the-variants.{At, NoByte}
+use Rattle.address.specs.Slices.{sliceAddress}
+use Rattle.address.specs.declared.answer.Address.{Address}
+use Rattle.address.specs.declared.answer.Address.the-variants.{Illegal, NotFitted, Fitted}
 use Rattle.shown.specs.declared.Shown.{Shown}
 use Rattle.colour.specs.Colours.{nibbleOf}
 use Rattle.colour.specs.Ranks.{colourOfRank, hasRank, rankOf}
@@ -37,17 +39,19 @@ pointer r6 r7 =
     let t = mainPointer r6 r7 in
     t .x ∷ t .y ∷ t .z ∷ placeOf (t .x) (t .y) (t .z) ∷ []
 
-placed : SlicePlace → List ℕ
-placed (At p) = p ∷ []
-placed NoByte = []
+-- the place of an address, which has one where it is legal and fitted
+placed : Address → List ℕ
+placed Illegal = []
+placed NotFitted = []
+placed (Fitted p) = p ∷ []
 
--- the place of slice nt of the character c in block z
+-- the place of slice nt of the character c in block z, on 16 blocks
 slice : ℕ → ℕ → ℕ → List ℕ
-slice c z nt = placed (slicePlaceOf c nt z)
+slice c z nt = placed (sliceAddress fullBoard c nt z)
 
--- every register and the phase 0
+-- every register and the phase 0, on 16 blocks
 allZero : Shown
-allZero = record { tgs = 0; mat = 0; pat = 0; dor = 0; ror = 0; phase = 0 }
+allZero = record { tgs = 0; mat = 0; pat = 0; dor = 0; ror = 0; phase = 0; blocks = fullBoard }
 
 -- the bytes of slice 0, whose byte is s, of the cell of three code bytes
 line : ℕ → ℕ → ℕ → ℕ → List ℕ
@@ -75,5 +79,5 @@ twelve =
 
 -- every case holds of the definitions that the contracts cite
 pub cases : map (λ c. c .given) twelve ≡ map (λ c. c .wanted) twelve
-unfolding twelve case place pointer placed slice allZero line ranks placeOf legalY slicePlaceOf rowY colourOfRank lastBelow hasRank rankOf countBelow joined cellLine cellOf bichromeOf quadrichromeOf setOf resolutionOf concealed flashed inverted inked sliceOfTwenty
+unfolding twelve case place pointer placed slice allZero line ranks placeOf legalY onPage addressOf sliceAddress rowY colourOfRank lastBelow hasRank rankOf countBelow joined cellLine cellOf bichromeOf quadrichromeOf setOf resolutionOf concealed flashed inverted inked sliceOfTwenty
 cases = refl

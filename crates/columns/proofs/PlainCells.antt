@@ -68,7 +68,7 @@ module _ (m rom : List ℕ) (shown : Shown) (code : List ℕ) (plain : isPlain (
       let high : b / 16 % 8 ≡ bits 4 4 b = omega (arith, below) in
       let same : first + n ≡ 1280 * setNumber (bits 4 4 b) + 10 * (getD code 0 0 % 128) + n = omega (arith, e ∙ ap (λ (h : ℕ). setNumber h * 1280 + getD code 0 0 % 128 * 10) high) in
       ap (λ (i : ℕ). getD rom i 0) same
-      ∙ ap (λ (s : Source). sliceFrom m rom (getD code 0 0) s n) (sym (set-plain shown (bits 4 4 b) (omega (arith, below))))
+      ∙ ap (λ (s : Source). sliceFrom (shown .blocks) m rom (getD code 0 0) s n) (sym (set-plain shown (bits 4 4 b) (omega (arith, below))))
 
   slices-are :
       (first : ℕ) → first ≡ setNumber (b / 16 % 8) * 1280 + getD code 0 0 % 128 * 10 → length rom ≡ romBytes

@@ -10,15 +10,16 @@ use Rattle.basics.specs.Bits.{fromBits}
 use Rattle.basics.specs.Parts.{table}
 use Rattle.basics.proofs.Bits.{byte-number}
 use Rattle.basics.proofs.Parts.{table-at, table-same, table-of}
-use Rattle.address.specs.Slices.{slicePlaceOf}
-use Rattle.address.specs.declared.slice.SlicePlace.{SlicePlace}
-use Rattle.address.specs.declared.slice.SlicePlace.the-variants.{At, NoByte}
+use Rattle.address.specs.Addresses.{byteFrom}
+use Rattle.address.specs.Slices.{sliceAddress}
+use Rattle.address.specs.declared.answer.Address.{Address}
+use Rattle.address.specs.declared.answer.Address.the-variants.{Illegal, NotFitted, Fitted}
 use Rattle.shown.specs.declared.Shown.{Shown}
 use Rattle.cell.specs.declared.kind.Cell.{Cell}
 use Rattle.pixels.specs.Slices.{sliceShown}
 use Rattle.pixels.specs.Pixels.{takenBit}
 use Rattle.pixels.specs.HowPairs.{wideOf}
-use Rattle.sources.specs.Sources.{characterOf, cellSource, keptSlice, romSlice, byteOr, sliceFrom, slicesOf}
+use Rattle.sources.specs.Sources.{characterOf, cellSource, keptSlice, romSlice, sliceFrom, slicesOf}
 use Rattle.sources.specs.declared.source.Source.{Source}
 use Rattle.sources.specs.declared.source.Source.the-variants.{Rom, Block}
 use Rattle.slices.specs.HowSlices.{byNumber}
@@ -27,22 +28,23 @@ use Rattle.columns.specs.HowTens.{doubledOf, tenOf}
 
 -- a slice from memory or ROM whose elements are bytes is a byte
 module _ (m rom : List ℕ) (m-small : (i : ℕ) → getD m i 0 < 256) (rom-small : (i : ℕ) → getD rom i 0 < 256) where
-  kept-small : (c z n : ℕ) → keptSlice m c z n < 256
+  kept-small : (blocks c z n : ℕ) → keptSlice blocks m c z n < 256
   unfolding keptSlice
-  kept-small c z n = go (slicePlaceOf c n z)
+  kept-small blocks c z n = go (sliceAddress blocks c n z)
     where
-      go : (p : SlicePlace) → byteOr m p < 256
-      go (At p) = m-small p
-      go NoByte = omega arith
+      go : (at : Address) → byteFrom m at < 256
+      go Illegal = omega arith
+      go NotFitted = omega arith
+      go (Fitted p) = m-small p
 
-  from-small : (c : ℕ) (source : Source) (n : ℕ) → sliceFrom m rom c source n < 256
+  from-small : (blocks c : ℕ) (source : Source) (n : ℕ) → sliceFrom blocks m rom c source n < 256
   unfolding romSlice
-  from-small c (Rom set) n = rom-small (1280 * set + 10 * (c % 128) + n)
-  from-small c (Block z) n = kept-small c z n
+  from-small blocks c (Rom set) n = rom-small (1280 * set + 10 * (c % 128) + n)
+  from-small blocks c (Block z) n = kept-small blocks c z n
 
   pub slice-small : (shown : Shown) (cell : Cell) (n : ℕ) → slicesOf m rom shown cell n < 256
   unfolding slicesOf
-  slice-small shown cell n = from-small (characterOf cell) (cellSource shown cell) n
+  slice-small shown cell n = from-small (shown .blocks) (characterOf cell) (cellSource shown cell) n
 
 -- the ten bytes of a cell, from its slices and those that its lines show
 module _ (m rom : List ℕ) (shown : Shown) (cell : Cell) (lower right : Bool) (ten slices : List ℕ)

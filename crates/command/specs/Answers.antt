@@ -2,6 +2,7 @@
 -- Assumes nothing.
 use Prim.Native.Nat.{ℕ}
 use Rattle.command.specs.declared.answer.Answer as access
+use Rattle.command.specs.declared.answer.PowerUp as power
 use Rattle.command.specs.declared.answer.Drawing as drawing
 
 -- of an access or a phase change
@@ -12,6 +13,7 @@ numberOf access.the-variants.WrongAddress = 2
 numberOf (access.the-variants.NotListed v) = 3
 numberOf (access.the-variants.BadPointer v) = 4
 numberOf access.the-variants.WrongPhase = 9
+numberOf (access.the-variants.NotFitted v) = 11
 
 -- value read, or 0
 abbrev pub valueOf : access.Answer → ℕ
@@ -21,6 +23,12 @@ valueOf access.the-variants.WrongAddress = 0
 valueOf (access.the-variants.NotListed v) = v
 valueOf (access.the-variants.BadPointer v) = v
 valueOf access.the-variants.WrongPhase = 0
+valueOf (access.the-variants.NotFitted v) = v
+
+-- of a power-up
+abbrev pub powerNumberOf : power.PowerUp → ℕ
+powerNumberOf power.the-variants.Accepted = 0
+powerNumberOf power.the-variants.WrongBoard = 12
 
 -- of a draw
 abbrev pub drawNumberOf : drawing.Drawing → ℕ

@@ -1,11 +1,11 @@
 // Answers by number.
 ghost use mathlib.Core.Path.{_≡_};
-ghost use Rattle.command.specs.Answers.{numberOf, valueOf, drawNumberOf, rowsOf};
+ghost use Rattle.command.specs.Answers.{numberOf, valueOf, powerNumberOf, drawNumberOf, rowsOf};
 
 // Of an access or a phase change, with the value where it has one.
 pub enum Answer {
     Accepted(u8),
-    // 1: private memory is not 16,384 bytes.
+    // 1: private memory is not 1,024 bytes for each block of the board.
     WrongMemory,
     // 2: the address's high four bits are not 2.
     WrongAddress,
@@ -15,12 +15,21 @@ pub enum Answer {
     BadPointer(u8),
     // 9: phase is not 0 or 1.
     WrongPhase,
+    // 11: one of its bytes lies in a block that is not fitted.
+    NotFitted(u8),
+}
+
+// Of a power-up.
+pub enum PowerUp {
+    Accepted,
+    // 12: the number of blocks is not 2, 8 or 16.
+    WrongBoard,
 }
 
 // Of a draw, with the number of rows.
 pub enum Drawing {
     Accepted(usize),
-    // 1: private memory is not 16,384 bytes.
+    // 1: private memory is not 1,024 bytes for each block of the board.
     WrongMemory,
     // 5: ROM is not 6,400 bytes.
     WrongRom,
@@ -43,6 +52,7 @@ impl Answer {
             Answer::NotListed(_) => 3,
             Answer::BadPointer(_) => 4,
             Answer::WrongPhase => 9,
+            Answer::NotFitted(_) => 11,
         }
     }
 
@@ -56,6 +66,18 @@ impl Answer {
             Answer::NotListed(v) => v,
             Answer::BadPointer(v) => v,
             Answer::WrongPhase => 0,
+            Answer::NotFitted(v) => v,
+        }
+    }
+}
+
+impl PowerUp {
+    pub fn number(self) -> u8
+        ensures { λ r. ⌜ r ≡ powerNumberOf self ⌝ }
+    {
+        match self {
+            PowerUp::Accepted => 0,
+            PowerUp::WrongBoard => 12,
         }
     }
 }

@@ -1,4 +1,4 @@
--- A row of 80 columns without a cell that flashes looks the same in every phase. Its cells are found by ROR, and their pixels by DOR, MAT, PAT
+-- A row of 80 columns without a cell that flashes looks the same in every phase. Its cells are found by ROR and the board, and their pixels by DOR, MAT, PAT
 -- and the phase.
 -- Assumes nothing.
 use Prim.Native.Nat.{ℕ, _+_, _*_}
@@ -15,6 +15,7 @@ use Rattle.basics.proofs.Parts.{table-at, table-same, joined-same}
 use Rattle.shown.specs.declared.Shown.{Shown}
 use Rattle.colour.specs.Colours.{packedOf}
 use Rattle.page.specs.Codes.{codeAt, rowBuffer}
+use Rattle.page.proofs.Codes.{code-ignores}
 use Rattle.narrow.specs.declared.pair.Narrow.{Narrow}
 use Rattle.narrow.specs.Codes.{evenOf, oddOf, narrowFlashes, pairFlashes}
 use Rattle.narrow.specs.Pixels.{characterBit, textUnderlined, textFlashed, textInverted, textBit, mosaicBit, narrowBit, inkColour, narrowPixel, narrowLine, pairLine}
@@ -58,13 +59,13 @@ module _ (a b : Shown) (mat : a .mat ≡ b .mat) (pat : a .pat ≡ b .pat) (dor 
     unfolding pairLine pairFlashes
     pair-steady code e = ap₂ _++_ (line-steady (evenOf code) (or-neither (narrowFlashes (evenOf code)) _ e)) (line-steady (oddOf code) (or-none (narrowFlashes (evenOf code)) _ e))
 
-  pub eighty-steady : a .ror ≡ b .ror → (m rom : List ℕ) (r : ℕ) → anyPairFlashes a m r ≡ false → eightyRow m rom a r ≡ eightyRow m rom b r
+  pub eighty-steady : a .ror ≡ b .ror → a .blocks ≡ b .blocks → (m rom : List ℕ) (r : ℕ) → anyPairFlashes a m r ≡ false → eightyRow m rom a r ≡ eightyRow m rom b r
   unfolding eightyLines eightyLine
-  eighty-steady ror m rom r none =
+  eighty-steady ror blocks m rom r none =
       joined-same _ _ 10
       (λ n k.
       joined-same _ _ 40
       (λ x l.
       pair-steady rom n (getD (rowBuffer a m r) x [])
       (ap pairFlashes (table-at (codeAt a m r) 40 x [] l) ∙ any-not (λ x. pairFlashes (codeAt a m r x)) 40 x none l)))
-      ∙ rw ror
+      ∙ rw (table-same (codeAt a m r) (codeAt b m r) 40 (λ x l. code-ignores a b ror blocks m r x))

@@ -6,15 +6,18 @@ ghost use Prim.Native.Nat.{_+_, _*_, _%_, _<_, _≤_};
 ghost use lib.ListN.{length, take, drop};
 ghost use Rattle.basics.specs.Below.{anyBelow};
 ghost use Rattle.basics.specs.Parts.{table};
-ghost use Rattle.address.specs.Boards.{boardBlocks, memoryBytes};
-ghost use Rattle.page.specs.Codes.{codeOf, rowBuffer};
+ghost use Rattle.basics.specs.Choice.{pick};
+ghost use Rattle.address.specs.Boards.{bytesOf};
+ghost use Rattle.page.specs.Codes.{rowBuffer};
 ghost use Rattle.page.specs.Halves.{isWide, sameCode, goesOn, lowerHalves};
-ghost use Rattle.page.specs.HowHalves.{rightIn, goesOnAt, nextLowerIn, nextLowerAt, KnownAbove};
+ghost use Rattle.page.specs.HowCodes.{codeOf, isFitted, Has};
+ghost use Rattle.page.specs.HowHalves.{Compared, rightIn, goesOnAt, nextLowerIn, nextLowerAt, KnownAbove};
 use address::row::row_y;
+use page::code::is_fitted;
+use page::stretch::compared_by;
 use page::stretch::goes_on_at;
 use page::stretch::some_on;
 use page::stretch::some_wide;
-use page::stretch::starts_of;
 use shown::Shown;
 
 // Bichrome, with B3.
@@ -64,17 +67,20 @@ pub fn right_halves(cells: [[u8; 3]; 40]) -> [bool; 40]
 
 // The row at Y has a cell of double width.
 fn has_wide(memory: &[u8], z: u8, y: u8) -> bool
-    requires { ⌜ (length (now memory) ≡ memoryBytes) × (z < boardBlocks) × (y < 32) ⌝ }
+    requires { ⌜ Has (now memory) z 1 × (y < 32) ⌝ }
     ensures { λ r. ⌜ r ≡ anyBelow (λ x. isWide (codeOf (now (memory .entry)) z y x)) 40 ⌝ }
 {
     some_wide(memory, z, y, 0, 32) | some_wide(memory, z, y, 32, 8)
 }
 
-// The right halves of a screen row. Where it has no cell of double width there is nothing to ask.
+// The right halves of a screen row. Where it has no cell of double width there is nothing to ask: so where no B byte is fitted.
 pub fn right_halves_of(memory: &[u8], shown: Shown, row: u8, cells: [[u8; 3]; 40]) -> [bool; 40]
-    requires { ⌜ (length (now memory) ≡ memoryBytes) × (cells ≡ rowBuffer shown (now memory) row) ⌝ }
+    requires { ⌜ (length (now memory) ≡ bytesOf (shown .blocks)) × (cells ≡ rowBuffer shown (now memory) row) ⌝ }
     ensures { λ r. ⌜ r ≡ table (rightIn cells) 40 ⌝ }
 {
+    if !is_fitted(shown, 1) {
+        return [false; 40];
+    }
     let z = shown.first_block();
     let y = row_y(shown.yor(), row);
     if has_wide(memory, z, y) {
@@ -83,15 +89,29 @@ pub fn right_halves_of(memory: &[u8], shown: Shown, row: u8, cells: [[u8; 3]; 40
     [false; 40]
 }
 
-// Some cell of a row goes on from the cell above it.
+// The block whose bytes are compared as third bytes: the page's third, or its first once more where that one is not fitted.
+fn third_of(shown: Shown) -> u8
+    ensures { λ r. ⌜ r ≡ pick (isFitted shown 2) 2 0 ⌝ }
+{
+    if is_fitted(shown, 2) {
+        return 2;
+    }
+    0
+}
+
+// Some cell of a row goes on from the cell above it. Where no B byte is fitted, no cell is of double height.
 fn some_go_on(memory: &[u8], shown: Shown, row: u8) -> bool
-    requires { ⌜ (length (now memory) ≡ memoryBytes) × (0 < row) ⌝ }
+    requires { ⌜ (length (now memory) ≡ bytesOf (shown .blocks)) × (0 < row) ⌝ }
     ensures { λ r. ⌜ r ≡ anyBelow (goesOnAt shown (now (memory .entry)) row) 40 ⌝ }
 {
+    if !is_fitted(shown, 1) {
+        return false;
+    }
+    let third = third_of(shown);
     let z = shown.first_block();
     let y = row_y(shown.yor(), row);
     let above = row_y(shown.yor(), row - 1);
-    some_on(memory, z, y, above, 0, 32) | some_on(memory, z, y, above, 32, 8)
+    some_on(memory, z, third, y, above, 0, 32) | some_on(memory, z, third, y, above, 32, 8)
 }
 
 // The lower halves of a stretch, put behind those of the cells before it.
@@ -99,17 +119,18 @@ fn next_in(
     mut next: [bool; 40],
     memory: &[u8],
     z: u8,
+    third: u8,
     y: u8,
     above: u8,
     first: u16,
     n: u16,
     lowers: [bool; 40],
 ) -> [bool; 40]
-    requires { ⌜ (length (now memory) ≡ memoryBytes) × (z < boardBlocks) × (y < 32) × (above < 32) × (first + n ≤ 40) × (first % 32 + n ≤ 32) × (take first next ≡ table (nextLowerIn (now memory) z y above lowers) first) ⌝ }
+    requires { ⌜ Compared (now memory) z third × (y < 32) × (above < 32) × (first + n ≤ 40) × (first % 32 + n ≤ 32) × (take first next ≡ table (nextLowerIn (now memory) z y above lowers) first) ⌝ }
     ensures { λ r. ⌜ r ≡ table (nextLowerIn (now (memory .entry)) z y above lowers) (first + n) ++ drop (1 * (first + n)) next ⌝ }
 {
-    let here = starts_of(z, y, first);
-    let over = starts_of(z, above, first);
+    let here = compared_by(z, y, first, third);
+    let over = compared_by(z, above, first, third);
     for i in 0..n {
         let x = (first + i) as usize;
         let on = goes_on_at(memory, here, over, i as usize);
@@ -121,20 +142,24 @@ fn next_in(
 
 // The lower halves of a row, from those of the row above.
 fn next_lowers(memory: &[u8], shown: Shown, row: u8, lowers: [bool; 40]) -> [bool; 40]
-    requires { ⌜ (length (now memory) ≡ memoryBytes) × (0 < row) ⌝ }
+    requires { ⌜ (length (now memory) ≡ bytesOf (shown .blocks)) × (0 < row) ⌝ }
     ensures { λ r. ⌜ r ≡ table (nextLowerAt shown (now (memory .entry)) row lowers) 40 ⌝ }
 {
+    if !is_fitted(shown, 1) {
+        return [false; 40];
+    }
+    let third = third_of(shown);
     let z = shown.first_block();
     let y = row_y(shown.yor(), row);
     let above = row_y(shown.yor(), row - 1);
-    let left = next_in([false; 40], memory, z, y, above, 0, 32, lowers);
-    next_in(left, memory, z, y, above, 32, 8, lowers)
+    let left = next_in([false; 40], memory, z, third, y, above, 0, 32, lowers);
+    next_in(left, memory, z, third, y, above, 32, 8, lowers)
 }
 
 // The lower halves of a row: each asked of the row above, the row number falling to the service row. Where no cell goes on from
 // the one above it, there is nothing to ask.
 pub fn lower_halves(memory: &[u8], shown: Shown, row: u8) -> [bool; 40]
-    requires { ⌜ length (now memory) ≡ memoryBytes ⌝ }
+    requires { ⌜ length (now memory) ≡ bytesOf (shown .blocks) ⌝ }
     ensures { λ r. ⌜ r ≡ lowerHalves shown (now (memory .entry)) row ⌝ }
 {
     if row == 0 {
@@ -155,7 +180,7 @@ pub fn lower_halves_after(
     known: bool,
     lowers: [bool; 40],
 ) -> [bool; 40]
-    requires { ⌜ (length (now memory) ≡ memoryBytes) × KnownAbove shown (now memory) row known lowers ⌝ }
+    requires { ⌜ (length (now memory) ≡ bytesOf (shown .blocks)) × KnownAbove shown (now memory) row known lowers ⌝ }
     ensures { λ r. ⌜ r ≡ lowerHalves shown (now (memory .entry)) row ⌝ }
 {
     if known {

@@ -1,15 +1,14 @@
 -- Demand 2: one byte written to R1 and stored by OCT is the one that OCT reads back.
 -- Assumes nothing.
 use Prim.Native.Nat.{ℕ}
-use mathlib.Core.Path.{_≡_, refl, _∙_}
+use mathlib.Core.Path.{_≡_, refl, ap, _∙_}
 use mathlib.Core.Bool.{Bool, true, false}
 use mathlib.Core.List.{List, [], _∷_, _++_}
 use native.Mathlib.Omega.{arith}
 use lib.ListN.{length, getD, set}
 use Rattle.basics.specs.Choice.{pick}
-use Rattle.address.specs.Boards.{memoryBytes}
+use Rattle.address.specs.Addresses.{byteAddresses, allFitted}
 use Rattle.address.specs.Pointers.{mainPointer, auxiliaryPointer}
-use Rattle.address.specs.Triples.{legal}
 use Rattle.address.specs.declared.triple.Triple.{Triple}
 use Rattle.command.specs.declared.Command.the-variants.{Oct}
 use Rattle.command.specs.Commands.{commandOf}
@@ -17,7 +16,7 @@ use Rattle.processor.specs.Sizes.{Sized}
 use Rattle.kept.specs.Demands.{octCode, ByteRoundTrip}
 use Rattle.kept.specs.Quiet.{Quiet}
 use Rattle.kept.specs.Runs.{Operation, World, first, step, run}
-use Rattle.kept.proofs.Memory.{run-long}
+use Rattle.kept.proofs.Boards.{Whole, board-stays, run-whole, power-up-whole, power-up-blocks}
 use Rattle.kept.proofs.Pointed.{pointIn, Uses, Journey, trip, meant, same-pointer, stored-now, read-now, quiet-back, round-trip}
 use Rattle.kept.proofs.Programs.{eight, Put, to, putInto, Holds}
 use Rattle.kept.proofs.RoundTrip.{byte-kept-in}
@@ -35,7 +34,7 @@ oct-code false true false = refl
 oct-code false false true = refl
 oct-code false false false = refl
 
-oct-uses : (reads auxiliary increments : Bool) → Uses auxiliary (octCode reads auxiliary increments) (Oct reads auxiliary increments)
+oct-uses : (reads auxiliary increments : Bool) → Uses auxiliary byteAddresses (octCode reads auxiliary increments) (Oct reads auxiliary increments)
 oct-uses reads auxiliary increments = record { is = oct-code reads auxiliary increments; listed = refl; at = λ p. refl }
 
 module _ (r4 r5 r6 r7 v : ℕ) (x : Bool) where
@@ -54,12 +53,11 @@ module _ (r4 r5 r6 r7 v : ℕ) (x : Bool) where
 
   -- the trip from a world w
   module _
-      (i j : Bool) (g : legal meaning ≡ true) (w : World) (long : length (w .memory) ≡ memoryBytes) (s : Sized (w .processor)) (between : List Operation)
+      (i j : Bool) (w : World) (g : allFitted (byteAddresses (w .processor .blocks) meaning) ≡ true) (long : Whole w) (s : Sized (w .processor)) (between : List Operation)
     where
-      abbrev journey : Journey x meaning Loads (Oct false x i) (Oct true x j)
+      abbrev journey : Journey x byteAddresses meaning Loads (Oct false x i) (Oct true x j)
       journey =
           record {
-            ok = g;
             pointers = pointers;
             values = to 1 v ∷ [];
             named = (omega arith, (omega arith, (omega arith, (omega arith, tt))));
@@ -75,25 +73,28 @@ module _ (r4 r5 r6 r7 v : ℕ) (x : Bool) where
             stores = oct-uses false x i;
             loads = oct-uses true x j;
             from = w;
+            ok = g;
             whole = long;
             sized = s;
             between = between;
           }
 
       abbrev t : Trip
-      t = trip _ _ _ _ _ journey
+      t = trip _ _ _ _ _ _ journey
 
       holds : Quiet between (step (storing t) (t .ready)) → Holds (to 1 v ∷ []) (end t .processor)
       holds quiet =
           let kept =
-          byte-kept-in (t .ready) (t .sized) (storing t) (back t) (reading t) x x i j refl (stored-now _ _ _ _ _ journey)
-          (quiet-back _ _ _ _ _ journey quiet) refl (read-now _ _ _ _ _ journey) (same-pointer _ _ _ _ _ journey) in
-          ((omega arith, omega arith, kept ∙ meant _ _ _ _ _ journey), tt)
+          byte-kept-in (t .ready) (t .sized) (storing t) (back t) (reading t) x x i j refl (stored-now _ _ _ _ _ _ journey)
+          (quiet-back _ _ _ _ _ _ journey quiet) refl (read-now _ _ _ _ _ _ journey) (same-pointer _ _ _ _ _ _ journey) in
+          ((omega arith, omega arith, kept ∙ meant _ _ _ _ _ _ journey), tt)
 
 pub byte-round-trip : ByteRoundTrip
-byte-round-trip m rom picture before between r4 r5 r6 r7 v x i j e g quiet =
-    let w = first m rom picture in
+byte-round-trip blocks m rom picture before between r4 r5 r6 r7 v x i j e g quiet =
+    let w = first blocks m rom picture in
     let u = run before w in
-    let long = run-long before w memoryBytes e in
-    let sized = run-sized before w power-up-sized in
-    round-trip _ _ _ _ _ (journey r4 r5 r6 r7 v x i j g u long sized between) (to 1 v ∷ []) (holds r4 r5 r6 r7 v x i j g u long sized between quiet)
+    let whole = run-whole before w (power-up-whole blocks m e) in
+    let sized = run-sized before w (power-up-sized blocks) in
+    let board = board-stays before w ∙ power-up-blocks blocks in
+    let fits = ap (λ (n : ℕ). allFitted (byteAddresses n (pick x (auxiliaryPointer r4 r5 r6) (mainPointer r6 r7)))) board ∙ g in
+    round-trip _ _ _ _ _ _ (journey r4 r5 r6 r7 v x i j u fits whole sized between) (to 1 v ∷ []) (holds r4 r5 r6 r7 v x i j u fits whole sized between quiet)

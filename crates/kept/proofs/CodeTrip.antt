@@ -6,9 +6,8 @@ use mathlib.Core.Bool.{Bool, true, false}
 use mathlib.Core.List.{List, [], _∷_, _++_}
 use native.Mathlib.Omega.{arith}
 use lib.ListN.{length, getD, set}
-use Rattle.address.specs.Boards.{memoryBytes}
+use Rattle.address.specs.Addresses.{codeAddresses, allFitted}
 use Rattle.address.specs.Pointers.{mainPointer}
-use Rattle.address.specs.Triples.{legal}
 use Rattle.command.specs.declared.Command.the-variants.{Krf}
 use Rattle.command.specs.Commands.{commandOf}
 use Rattle.processor.specs.States.{registerOf}
@@ -16,7 +15,7 @@ use Rattle.processor.specs.Sizes.{Sized}
 use Rattle.kept.specs.Demands.{krfCode, codeReplies, CodeRoundTrip}
 use Rattle.kept.specs.Quiet.{Quiet}
 use Rattle.kept.specs.Runs.{Operation, World, first, step, run, Reply, reply}
-use Rattle.kept.proofs.Memory.{run-long}
+use Rattle.kept.proofs.Boards.{Whole, board-stays, run-whole, power-up-whole, power-up-blocks}
 use Rattle.kept.proofs.Pointed.{pointIn, Uses, Journey, trip, meant, same-pointer, stored-now, read-now, quiet-back, round-trip}
 use Rattle.kept.proofs.Programs.{eight, Put, to, putInto, answers, Holds}
 use Rattle.kept.proofs.RoundTrip.{code-kept-in}
@@ -30,7 +29,7 @@ krf-code true false = refl
 krf-code false true = refl
 krf-code false false = refl
 
-krf-uses : (reads increments : Bool) → Uses false (krfCode reads increments) (Krf reads increments)
+krf-uses : (reads increments : Bool) → Uses false codeAddresses (krfCode reads increments) (Krf reads increments)
 krf-uses reads increments = record { is = krf-code reads increments; listed = refl; at = λ p. refl }
 
 abbrev values : ℕ → ℕ → ℕ → List Put
@@ -52,12 +51,11 @@ module _ (r6 r7 c b a : ℕ) where
 
   -- the trip from a world w
   module _
-      (i j : Bool) (g : legal (mainPointer r6 r7) ≡ true) (w : World) (long : length (w .memory) ≡ memoryBytes) (s : Sized (w .processor))
+      (i j : Bool) (w : World) (g : allFitted (codeAddresses (w .processor .blocks) (mainPointer r6 r7)) ≡ true) (long : Whole w) (s : Sized (w .processor))
       (between : List Operation) where
-    abbrev journey : Journey false (mainPointer r6 r7) Codes (Krf false i) (Krf true j)
+    abbrev journey : Journey false codeAddresses (mainPointer r6 r7) Codes (Krf false i) (Krf true j)
     journey =
         record {
-          ok = g;
           pointers = pointer;
           values = values c b a;
           named = (omega arith, (omega arith, tt));
@@ -73,24 +71,25 @@ module _ (r6 r7 c b a : ℕ) where
           stores = krf-uses false i;
           loads = krf-uses true j;
           from = w;
+          ok = g;
           whole = long;
           sized = s;
           between = between;
         }
 
     abbrev t : Trip
-    t = trip _ _ _ _ _ journey
+    t = trip _ _ _ _ _ _ journey
 
     kept :
         Quiet between (step (storing t) (t .ready)) → (n : ℕ) → 1 ≤ n → n ≤ 3 →
         registerOf (end t .processor) n ≡ getD (set (t .ready .processor .registers) 0 (krfCode false i)) n 0
     kept quiet n l h =
-        code-kept-in (t .ready) (t .sized) (storing t) (back t) (reading t) i j refl (stored-now _ _ _ _ _ journey) (quiet-back _ _ _ _ _ journey quiet) refl
-        (read-now _ _ _ _ _ journey) (same-pointer _ _ _ _ _ journey) n l h
+        code-kept-in (t .ready) (t .sized) (storing t) (back t) (reading t) i j refl (stored-now _ _ _ _ _ _ journey) (quiet-back _ _ _ _ _ _ journey quiet) refl
+        (read-now _ _ _ _ _ _ journey) (same-pointer _ _ _ _ _ _ journey) n l h
 
     holds : Quiet between (step (storing t) (t .ready)) → Holds (values c b a) (end t .processor)
     holds quiet =
-        let m = meant _ _ _ _ _ journey in (
+        let m = meant _ _ _ _ _ _ journey in (
           (omega arith, omega arith, kept quiet 1 (omega arith) (omega arith) ∙ m .0),
           (
             (omega arith, omega arith, kept quiet 2 (omega arith) (omega arith) ∙ m .1),
@@ -99,10 +98,12 @@ module _ (r6 r7 c b a : ℕ) where
         )
 
 pub code-round-trip : CodeRoundTrip
-code-round-trip m rom picture before between r6 r7 c b a i j e g quiet =
-    let w = first m rom picture in
+code-round-trip blocks m rom picture before between r6 r7 c b a i j e g quiet =
+    let w = first blocks m rom picture in
     let u = run before w in
-    let long = run-long before w memoryBytes e in
-    let sized = run-sized before w power-up-sized in
-    round-trip _ _ _ _ _ (journey r6 r7 c b a i j g u long sized between) (values c b a) (holds r6 r7 c b a i j g u long sized between quiet)
+    let whole = run-whole before w (power-up-whole blocks m e) in
+    let sized = run-sized before w (power-up-sized blocks) in
+    let board = board-stays before w ∙ power-up-blocks blocks in
+    let fits = ap (λ (n : ℕ). allFitted (codeAddresses n (mainPointer r6 r7))) board ∙ g in
+    round-trip _ _ _ _ _ _ (journey r6 r7 c b a i j u fits whole sized between) (values c b a) (holds r6 r7 c b a i j u fits whole sized between quiet)
     ∙ ap (λ (l : List Reply). reply 0 0 ∷ reply 0 0 ∷ reply 0 0 ∷ l) (answered c b a)

@@ -2,8 +2,10 @@
 -- Assumes nothing.
 use Rattle.kept.specs.Demands.{Demand1, Demand2, Demand3}
 use Rattle.kept.proofs.Always.{draw-fresh}
+use Rattle.kept.proofs.Boards.{board-stays, board-chosen}
 use Rattle.kept.proofs.ByteTrip.{byte-round-trip}
 use Rattle.kept.proofs.CodeTrip.{code-round-trip}
+use Rattle.kept.proofs.Lists.{lists-fitted}
 use Rattle.kept.proofs.Exact.{marks-exact}
 use Rattle.kept.proofs.Memory.{unused-stay}
 use Rattle.kept.proofs.NarrowTrip.{narrow-round-trip}
@@ -15,10 +17,10 @@ use Rattle.kept.proofs.RoundTrip.{code-kept, byte-kept, narrow-kept, ne
 use Rattle.kept.proofs.Unique.{one-access, one-draw}
 
 pub demand-1 : Demand1
-demand-1 = (answered-in-order, refusal-leaves, each-number-reached, draws-reached, one-access, one-draw)
+demand-1 = (answered-in-order, refusal-leaves, board-stays, board-chosen, each-number-reached, draws-reached, one-access, one-draw)
 
 pub demand-2 : Demand2
 demand-2 = (code-round-trip, byte-round-trip, narrow-round-trip, code-kept, byte-kept, narrow-kept, neighbour-kept, unused-stay)
 
 pub demand-3 : Demand3
-demand-3 = (draw-fresh, marks-exact, answered-in-order)
+demand-3 = (draw-fresh, marks-exact, lists-fitted, answered-in-order)

@@ -9,7 +9,6 @@ use lib.Dec.{eqb}
 use borrow.Author.Tests.{ne-eqb}
 use Rattle.basics.proofs.Choice.{pick-either}
 use Rattle.basics.specs.Choice.{pick}
-use Rattle.address.specs.Triples.{legal}
 use Rattle.address.specs.declared.triple.Triple.{Triple}
 use Rattle.page.specs.Marks.{isMarked}
 use Rattle.command.specs.declared.Command.{Command}
@@ -21,7 +20,7 @@ use Rattle.processor.specs.Pointers.{pointerOf}
 use Rattle.address.specs.Narrow.{isOdd, attributesAt, nibbleInto}
 use Rattle.address.specs.Places.{blockAt, loaded}
 use Rattle.processor.specs.Bytes.{stored, oct, codeStored, krf, narrowStored, krl}
-use Rattle.processor.specs.Access.{isUnlisted, isAstray, effect, Outcome, indirect}
+use Rattle.processor.specs.Access.{isUnlisted, isAstray, isUnfitted, effect, Outcome, indirect}
 use Rattle.processor.specs.Draws.{DrawOutcome, drawnPage}
 use Rattle.kept.specs.Demands.{MarksExact}
 use Rattle.kept.specs.Quiet.{isMarker}
@@ -67,18 +66,21 @@ module _ (r : ℕ) (l : r < 25) where
 
   -- what a command leaves, refused or not
   abbrev settled : Command → Chip → Chip
-  settled c k = pick (isUnlisted c || isAstray c (k .processor)) k (effect c k)
+  settled c k = pick (isUnlisted c || (isAstray c (k .processor) || isUnfitted c (k .processor))) k (effect c k)
 
   -- where it is no marker, the row is marked as it was
   unruled : (c : Command) (k : Chip) → isMarker c ≡ false → marked (settled c k) ≡ (marked k || false)
   unruled c k n =
-      pick-either (λ (j : Chip). marked j ≡ marked k) (isUnlisted c || isAstray c (k .processor)) k (effect c k) refl
+      pick-either (λ (j : Chip). marked j ≡ marked k) (isUnlisted c || (isAstray c (k .processor) || isUnfitted c (k .processor))) k (effect c k) refl
       (at _ _ (effect-keeps isMarker _ (unmarked _) c n k (λ s. absurd (false≢true (sym n ∙ store-marks c s))) refl))
       ∙ sym (or-false (marked k))
 
-  pointed : (b : Bool) (k done : Chip) (rule : Bool) → marked done ≡ (marked k || rule) → marked (pick (not b) k done) ≡ (marked k || (b && rule))
-  pointed true k done rule e = e
-  pointed false k done rule e = sym (or-false (marked k))
+  pointed :
+      (astray unfitted : Bool) (k done : Chip) (rule : Bool) → marked done ≡ (marked k || rule) →
+      marked (pick (astray || unfitted) k done) ≡ (marked k || ((not astray && not unfitted) && rule))
+  pointed true unfitted k done rule e = sym (or-false (marked k))
+  pointed false true k done rule e = sym (or-false (marked k))
+  pointed false false k done rule e = e
 
   -- a command marks by its rule
   ruled : (c : Command) (k : Chip) → marked (settled c k) ≡ (marked k || commandRule c k r)
@@ -90,18 +92,18 @@ module _ (r : ℕ) (l : r < 25) where
   ruled (Krf false increments) k =
       let t = pointerOf false (k .processor) in
       let j = chip (cleared (k .processor)) (k .memory) in
-      pointed (legal t) k (krf false increments k) (codeRule t j r) (at _ _ (krf-marks increments k) ∙ three t j)
+      pointed (isAstray (Krf false increments) (k .processor)) (isUnfitted (Krf false increments) (k .processor)) k (krf false increments k) (codeRule t j r) (at _ _ (krf-marks increments k) ∙ three t j)
   ruled (Oct true auxiliary increments) k = unruled (Oct true auxiliary increments) k refl
   ruled (Oct false auxiliary increments) k =
       let t = pointerOf auxiliary (k .processor) in
       let j = chip (cleared (k .processor)) (k .memory) in
       let v = registerOf (k .processor) 1 in
-      pointed (legal t) k (oct false auxiliary increments k) (storeRule t v j r) (at _ _ (oct-marks auxiliary increments k) ∙ store-marks-exact t v j r l)
+      pointed (isAstray (Oct false auxiliary increments) (k .processor)) (isUnfitted (Oct false auxiliary increments) (k .processor)) k (oct false auxiliary increments k) (storeRule t v j r) (at _ _ (oct-marks auxiliary increments k) ∙ store-marks-exact t v j r l)
   ruled (Krl true increments) k = unruled (Krl true increments) k refl
   ruled (Krl false increments) k =
       let t = pointerOf false (k .processor) in
       let j = chip (cleared (k .processor)) (k .memory) in
-      pointed (legal t) k (krl false increments k) (narrowRule t j r) (at _ _ (krl-marks increments k) ∙ two t j)
+      pointed (isAstray (Krl false increments) (k .processor)) (isUnfitted (Krl false increments) (k .processor)) k (krl false increments k) (narrowRule t j r) (at _ _ (krl-marks increments k) ∙ two t j)
   ruled NotListed k = unruled NotListed k refl
 
   -- the register access itself marks nothing
@@ -117,7 +119,8 @@ module _ (r : ℕ) (l : r < 25) where
         not-executed = λ m a x. rw (m, a, x, and-true, or-false);
         not-listed = λ m a x u. rw (m, a, x, and-true) (rw u at command);
         bad-pointer = λ m a x u s. rw (m, a, x, and-true) (rw (u, s) at command);
-        accepted = λ m a x u s. rw (m, a, x, and-true) (rw (u, s) at command);
+        not-fitted = λ m a x u s f. rw (m, a, x, and-true) (rw (u, s, f) at command);
+        accepted = λ m a x u s f. rw (m, a, x, and-true) (rw (u, s, f) at command);
       }
 
 pub marks-exact : MarksExact

@@ -10,15 +10,13 @@ use native.Mathlib.Omega.{arith}
 use Rattle.basics.proofs.Choice.{bool-cases}
 use Rattle.basics.proofs.Below.{any-hit}
 use Rattle.basics.proofs.Parts.{table-same}
-use Rattle.address.specs.Slices.{slicePlaceOf}
-use Rattle.address.specs.declared.slice.SlicePlace.{SlicePlace}
-use Rattle.address.specs.declared.slice.SlicePlace.the-variants.{At, NoByte}
-use Rattle.address.specs.Places.{byteAt}
+use Rattle.address.specs.Addresses.{isAt}
+use Rattle.address.specs.Slices.{sliceAddress}
 use Rattle.shown.specs.declared.Shown.{Shown}
 use Rattle.shown.specs.Modes.{isEighty}
 use Rattle.page.specs.Codes.{codeAt, rowBuffer}
 use Rattle.page.specs.Halves.{isTall, isWide, goesOn, secondHalf, lowerHalf, rightHalf}
-use Rattle.sources.specs.Sources.{cellSource, characterOf, byteOr, keptSlice}
+use Rattle.sources.specs.Sources.{cellSource, characterOf, keptSlice}
 use Rattle.page.specs.Inputs.{decoded, Slices, takenFrom, cellInput, rowInput}
 use Rattle.sources.specs.declared.source.Source.{Source}
 use Rattle.sources.specs.declared.source.Source.the-variants.{Rom, Block}
@@ -27,9 +25,9 @@ use Rattle.rows.specs.Rows.{painted}
 use Rattle.eighty.specs.Rows.{eightyLines}
 use Rattle.picture.specs.Rows.{rowOf}
 use Rattle.picture.proofs.Rows.{row-eighty, row-forty}
-use Rattle.reading.specs.Lists.{isAt, sourceHolds, cellHolds, slicesHold, hasTall}
+use Rattle.reading.specs.Lists.{sourceHolds, cellHolds, slicesHold, hasTall}
 use Rattle.reading.specs.Agreeing.{Agree, AgreeOnList}
-use Rattle.reading.proofs.Stable.{eqb-self, Own, Sliced, Up, code-same, own-above, up-above, its-own, its-slices, its-up}
+use Rattle.reading.proofs.Stable.{taken-same, Own, Sliced, Up, code-same, own-above, up-above, its-own, its-slices, its-up}
 use Rattle.kept.specs.Agreeing.{FrameLaw}
 
 module _ (shown : Shown) (m n : List ℕ) where
@@ -59,14 +57,15 @@ module _ (shown : Shown) (m n : List ℕ) where
   slice-hit r x p l h = any-hit (λ x. cellHolds shown p (codeAt shown m r x)) 40 x l h
 
   -- what a cell takes from a source whose places agree
-  taken-same : (c : ℕ) (s : Source) → Agree (λ p. sourceHolds p c s) m n → takenFrom m c s ≡ takenFrom n c s
+  slices-taken : (blocks c : ℕ) (s : Source) → Agree (λ p. sourceHolds blocks p c s) m n → takenFrom blocks m c s ≡ takenFrom blocks n c s
   unfolding keptSlice
-  taken-same c (Rom set) a = refl
-  taken-same c (Block z) a = ap Slices.fromMemory (table-same _ _ 10 (λ k l. at (slicePlaceOf c k z) (λ p h. a p (any-hit (λ j. isAt p (slicePlaceOf c j z)) 10 k l h))))
-    where
-      at : (s : SlicePlace) → ((p : ℕ) → isAt p s ≡ true → byteAt m p ≡ byteAt n p) → byteOr m s ≡ byteOr n s
-      at (At p) b = b p (eqb-self p)
-      at NoByte b = refl
+  slices-taken blocks c (Rom set) a = refl
+  slices-taken blocks c (Block z) a =
+      ap Slices.fromMemory
+      (table-same _ _ 10
+      (λ k l.
+      taken-same (λ p. sourceHolds blocks p c (Block z)) m n a (sliceAddress blocks c k z)
+      (λ p h. any-hit (λ j. isAt p (sliceAddress blocks c j z)) 10 k l h)))
 
   cell-same : (r x : ℕ) → Own shown m n r → Up shown m n r → Sliced shown m n r → x < 40 → cellInput shown m r x ≡ cellInput shown n r x
   unfolding cellInput cellHolds
@@ -76,7 +75,7 @@ module _ (shown : Shown) (m n : List ℕ) where
         ← code-same shown m n r x own l,
         ← lower-same x r l own up,
         ← right-same r x l own,
-        ← taken-same (characterOf (decoded code)) (cellSource shown (decoded code)) (λ p h. sl p (slice-hit r x p l h)),
+        ← slices-taken (shown .blocks) (characterOf (decoded code)) (cellSource shown (decoded code)) (λ p h. sl p (slice-hit r x p l h)),
       )
 
 -- the frame law

@@ -13,7 +13,6 @@ use Rattle.basics.proofs.Choice.{pick-either}
 use Rattle.address.specs.Places.{placeAt, byteAt}
 use Rattle.address.specs.Triples.{legal}
 use Rattle.address.specs.declared.triple.Triple.{Triple}
-use Rattle.address.proofs.Laws.{legal-page}
 use Rattle.address.proofs.Places.{place-gap}
 use Rattle.processor.specs.States.{Chip}
 use Rattle.processor.specs.Bytes.{stored}
@@ -58,7 +57,7 @@ run-long os w n e = run-keeps (λ m. length m ≡ n) (λ m t v g h. length-set m
 
 -- no legal triple has such a place
 unused : (z i : ℕ) → 40 ≤ i → i < 64 → (t : Triple) → legal t ≡ true → 1024 * z + i ≢ placeAt t
-unused z i a b t g e = place-gap (t .x) (t .y) (t .z) (legal-page _ t g) (rw (← e) (omega arith)) (rw (← e) (omega arith))
+unused z i a b t g e = place-gap (t .x) (t .y) (t .z) g (rw (← e) (omega arith)) (rw (← e) (omega arith))
 
 pub unused-stay : UnusedStay
 unused-stay os w z i a b =

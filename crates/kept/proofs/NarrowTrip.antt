@@ -6,10 +6,9 @@ use mathlib.Core.Bool.{Bool, true, false}
 use mathlib.Core.List.{List, [], _∷_, _++_}
 use native.Mathlib.Omega.{arith}
 use lib.ListN.{length, getD, set}
-use Rattle.address.specs.Boards.{memoryBytes}
+use Rattle.address.specs.Addresses.{narrowAddresses, allFitted}
 use Rattle.address.specs.Narrow.{isOdd, nibbleFor, bothHalves}
 use Rattle.address.specs.Pointers.{mainPointer}
-use Rattle.address.specs.Triples.{legal}
 use Rattle.address.specs.declared.triple.Triple.{Triple}
 use Rattle.command.specs.declared.Command.the-variants.{Krl}
 use Rattle.command.specs.Commands.{commandOf}
@@ -18,7 +17,7 @@ use Rattle.processor.specs.Sizes.{Sized}
 use Rattle.kept.specs.Demands.{krlCode, narrowReplies, NarrowRoundTrip}
 use Rattle.kept.specs.Quiet.{Quiet}
 use Rattle.kept.specs.Runs.{Operation, World, first, step, run, registered, Reply, reply}
-use Rattle.kept.proofs.Memory.{run-long}
+use Rattle.kept.proofs.Boards.{Whole, board-stays, run-whole, power-up-whole, power-up-blocks}
 use Rattle.kept.proofs.Pointed.{pointIn, Uses, Journey, trip, meant, stored-at, same-pointer, stored-now, read-now, quiet-back, round-trip}
 use Rattle.kept.proofs.Programs.{eight, Put, to, putInto, answers, Holds}
 use Rattle.kept.proofs.RoundTrip.{narrow-kept-in}
@@ -32,7 +31,7 @@ krl-code true false = refl
 krl-code false true = refl
 krl-code false false = refl
 
-krl-uses : (reads increments : Bool) → Uses false (krlCode reads increments) (Krl reads increments)
+krl-uses : (reads increments : Bool) → Uses false narrowAddresses (krlCode reads increments) (Krl reads increments)
 krl-uses reads increments = record { is = krl-code reads increments; listed = refl; at = λ p. refl }
 
 -- what they hold at the end
@@ -55,12 +54,11 @@ module _ (r6 r7 c a : ℕ) where
 
   -- the trip from a world w
   module _
-      (i j : Bool) (g : legal (mainPointer r6 r7) ≡ true) (w : World) (long : length (w .memory) ≡ memoryBytes) (s : Sized (w .processor))
+      (i j : Bool) (w : World) (g : allFitted (narrowAddresses (w .processor .blocks) (mainPointer r6 r7)) ≡ true) (long : Whole w) (s : Sized (w .processor))
       (between : List Operation) where
-    abbrev journey : Journey false (mainPointer r6 r7) Codes (Krl false i) (Krl true j)
+    abbrev journey : Journey false narrowAddresses (mainPointer r6 r7) Codes (Krl false i) (Krl true j)
     journey =
         record {
-          ok = g;
           pointers = pointer;
           values = to 1 c ∷ to 3 a ∷ [];
           named = (omega arith, (omega arith, tt));
@@ -76,31 +74,34 @@ module _ (r6 r7 c a : ℕ) where
           stores = krl-uses false i;
           loads = krl-uses true j;
           from = w;
+          ok = g;
           whole = long;
           sized = s;
           between = between;
         }
 
     abbrev t : Trip
-    t = trip _ _ _ _ _ journey
+    t = trip _ _ _ _ _ _ journey
 
     holds : Quiet between (step (storing t) (t .ready)) → Holds (read (mainPointer r6 r7) c a) (end t .processor)
     holds quiet =
         let kept =
-        narrow-kept-in (t .ready) (t .sized) (storing t) (back t) (reading t) i j refl (stored-now _ _ _ _ _ journey) (quiet-back _ _ _ _ _ journey quiet)
-        refl (read-now _ _ _ _ _ journey) (same-pointer _ _ _ _ _ journey) in
-        let m = meant _ _ _ _ _ journey in
+        narrow-kept-in (t .ready) (t .sized) (storing t) (back t) (reading t) i j refl (stored-now _ _ _ _ _ _ journey) (quiet-back _ _ _ _ _ _ journey quiet)
+        refl (read-now _ _ _ _ _ _ journey) (same-pointer _ _ _ _ _ _ journey) in
+        let m = meant _ _ _ _ _ _ journey in
         let r3 = registerOf (registered (storing t) (t .ready)) 3 in
         let nibble =
-        ap (λ (u : Triple). bothHalves (nibbleFor (isOdd u) r3)) (stored-at _ _ _ _ _ journey)
+        ap (λ (u : Triple). bothHalves (nibbleFor (isOdd u) r3)) (stored-at _ _ _ _ _ _ journey)
         ∙ ap (λ (v : ℕ). bothHalves (nibbleFor (isOdd (mainPointer r6 r7)) v)) (m .1) in
         ((omega arith, omega arith, kept .0 ∙ m .0), ((omega arith, omega arith, kept .1 ∙ nibble), tt))
 
 pub narrow-round-trip : NarrowRoundTrip
-narrow-round-trip m rom picture before between r6 r7 c a i j e g quiet =
-    let w = first m rom picture in
+narrow-round-trip blocks m rom picture before between r6 r7 c a i j e g quiet =
+    let w = first blocks m rom picture in
     let u = run before w in
-    let long = run-long before w memoryBytes e in
-    let sized = run-sized before w power-up-sized in
-    round-trip _ _ _ _ _ (journey r6 r7 c a i j g u long sized between) (read (mainPointer r6 r7) c a) (holds r6 r7 c a i j g u long sized between quiet)
+    let whole = run-whole before w (power-up-whole blocks m e) in
+    let sized = run-sized before w (power-up-sized blocks) in
+    let board = board-stays before w ∙ power-up-blocks blocks in
+    let fits = ap (λ (n : ℕ). allFitted (narrowAddresses n (mainPointer r6 r7))) board ∙ g in
+    round-trip _ _ _ _ _ _ (journey r6 r7 c a i j u fits whole sized between) (read (mainPointer r6 r7) c a) (holds r6 r7 c a i j u fits whole sized between quiet)
     ∙ ap (λ (l : List Reply). reply 0 0 ∷ reply 0 0 ∷ reply 0 0 ∷ l) (answered (mainPointer r6 r7) c a)

@@ -38,7 +38,8 @@ access-answer address v k p =
       not-executed = λ m a x. rw (m, a, x);
       not-listed = λ m a x u. rw (m, a, x, u);
       bad-pointer = λ m a x u s. rw (m, a, x, u, s);
-      accepted = λ m a x u s. rw (m, a, x, u, s);
+      not-fitted = λ m a x u s f. rw (m, a, x, u, s, f);
+      accepted = λ m a x u s f. rw (m, a, x, u, s, f);
     }
 
 -- a write answers 0 in any case
@@ -71,7 +72,7 @@ answered-in-order (write x address v) w =
     ∙ ap (reply _) (either-zero (firstOf (order (write x address v) w)))
 answered-in-order (read x address) w = read-known _ address (chipLent x w) (access-answer address _ (chipLent x w) (w .processor))
 answered-in-order (turn x n) w =
-    turn-known (λ (o : Outcome). said o ≡ reply (firstOf (phaseOrder n (lentOf x (w .memory)))) 0) n (chipLent x w)
+    turn-known (λ (o : Outcome). said o ≡ reply (firstOf (phaseOrder n (w .processor) (lentOf x (w .memory)))) 0) n (chipLent x w)
     (λ m. rw m) (λ m e. rw (m, e)) (λ m e. rw (m, e))
 answered-in-order (draw x y z) w = draw-answer (w .processor) (lentOf x (w .memory)) (lentOf y (w .rom)) (lentOf z (w .picture))
 

@@ -7,7 +7,7 @@ use mathlib.Core.List.{List}
 use native.Mathlib.Omega.{arith}
 use lib.ListN.{length}
 use borrow.Author.Tests.{eq-eqb, ne-eqb}
-use Rattle.address.specs.Boards.{memoryBytes}
+use Rattle.address.specs.Boards.{bytesOf}
 use Rattle.basics.specs.Bits.{bits, isSet}
 use Rattle.command.specs.declared.answer.Answer.the-variants.{Accepted}
 use Rattle.processor.specs.declared.state.Processor.{Processor}
@@ -15,7 +15,7 @@ use Rattle.processor.specs.States.{chip, withRegister, registerRead}
 use Rattle.processor.specs.Access.{outcome, executed, checked, written, readOut}
 
 -- 4 times 8 is 2 in the address's high four bits with bit 3 clear
-module _ (address : ℕ) (m : List ℕ) (right : length m ≡ memoryBytes) (four : address / 8 ≡ 4) where
+module _ (address : ℕ) (m : List ℕ) (p : Processor) (right : length m ≡ bytesOf (p .blocks)) (four : address / 8 ≡ 4) where
   high : bits 4 4 address ≡ 2
   high = omega (arith, four)
 
@@ -25,10 +25,10 @@ module _ (address : ℕ) (m : List ℕ) (right : length m ≡ memoryBytes) (four
   unasked : isSet 3 address ≡ false
   unasked = ne-eqb (address / 8 % 2) 1 (λ q. omega (arith, four))
 
-  pub plain-written : (v : ℕ) (p : Processor) → written address v (chip p m) ≡ outcome (chip (withRegister p (address % 8) v) m) (Accepted 0)
+  pub plain-written : (v : ℕ) → written address v (chip p m) ≡ outcome (chip (withRegister p (address % 8) v) m) (Accepted 0)
   unfolding written checked executed
-  plain-written v p = rw (eq-eqb _ _ right, eq-eqb _ _ high, unasked, low)
+  plain-written v = rw (eq-eqb _ _ right, eq-eqb _ _ high, unasked, low)
 
-  pub plain-read : (p : Processor) → readOut address (chip p m) ≡ outcome (chip p m) (Accepted (registerRead p (address % 8)))
+  pub plain-read : readOut address (chip p m) ≡ outcome (chip p m) (Accepted (registerRead p (address % 8)))
   unfolding readOut checked executed
-  plain-read p = rw (eq-eqb _ _ right, eq-eqb _ _ high, unasked, low)
+  plain-read = rw (eq-eqb _ _ right, eq-eqb _ _ high, unasked, low)

@@ -8,17 +8,17 @@ use native.Mathlib.Omega.{arith}
 use lib.ListN.{length, set}
 use lib.Seq.{getD-set-same}
 use borrow.Author.Tests.{eq-eqb, ne-eqb}
-use Rattle.address.specs.Boards.{memoryBytes}
 use Rattle.command.specs.declared.Command.{Command}
 use Rattle.command.specs.Commands.{commandOf}
 use Rattle.processor.specs.declared.state.Processor.{Processor}
 use Rattle.processor.specs.States.{chip, registerOf, registerRead, withRegister, withRegisters}
-use Rattle.processor.specs.Access.{Outcome, isUnlisted, isAstray, effect}
+use Rattle.processor.specs.Access.{Outcome, isUnlisted, isAstray, isUnfitted, effect}
 use Rattle.processor.specs.Sizes.{Sized}
 use Rattle.kept.specs.Demands.{put, get, execute}
 use Rattle.kept.specs.Orders.{firstOf, order}
 use Rattle.kept.specs.Quiet.{commandRun, Quiet}
 use Rattle.kept.specs.Runs.{Operation, World, step, run, reply, Reply, replyTo, replies, accessDone}
+use Rattle.kept.proofs.Boards.{Whole}
 use Rattle.kept.proofs.Numbers.{answered-in-order, number-first}
 use Rattle.kept.proofs.Plain.{plain-written, plain-read}
 use Rattle.kept.proofs.Ran.{isNop, command-ran}
@@ -56,33 +56,35 @@ said w o = reply (accessDone o w .number) (accessDone o w .value)
 low : (n : ℕ) → n < 8 → (0x20 + n) % 8 ≡ n
 low n l = omega arith
 
-module _ (w : World) (whole : length (w .memory) ≡ memoryBytes) where
+module _ (w : World) (whole : Whole w) where
   pub put-step : (n v : ℕ) → n < 8 → step (put n v) w ≡ written-in w n v
   put-step n v l =
-      ap (stepped w) (plain-written (0x20 + n) (w .memory) whole (omega arith) v (w .processor))
+      ap (stepped w) (plain-written (0x20 + n) (w .memory) (w .processor) whole (omega arith) v)
       ∙ ap (λ (i : ℕ). written-in w i v) (low n l)
 
   pub put-reply : (n v : ℕ) → n < 8 → replyTo (put n v) w ≡ reply 0 0
-  put-reply n v l = ap (said w) (plain-written (0x20 + n) (w .memory) whole (omega arith) v (w .processor))
+  put-reply n v l = ap (said w) (plain-written (0x20 + n) (w .memory) (w .processor) whole (omega arith) v)
 
   pub get-step : (n : ℕ) → n < 8 → step (get n) w ≡ w
-  get-step n l = ap (stepped w) (plain-read (0x20 + n) (w .memory) whole (omega arith) (w .processor))
+  get-step n l = ap (stepped w) (plain-read (0x20 + n) (w .memory) (w .processor) whole (omega arith))
 
   pub get-reply : (n : ℕ) → 1 ≤ n → n < 8 → replyTo (get n) w ≡ reply 0 (registerOf (w .processor) n)
   unfolding registerRead
   get-reply n a l =
-      ap (said w) (plain-read (0x20 + n) (w .memory) whole (omega arith) (w .processor))
+      ap (said w) (plain-read (0x20 + n) (w .memory) (w .processor) whole (omega arith))
       ∙ ap (λ (i : ℕ). reply 0 (registerRead (w .processor) i)) (low n l)
       ∙ rw (ne-eqb n 0 (λ e. omega arith))
 
 -- a command written to R0 and executed
-module _ (w : World) (whole : length (w .memory) ≡ memoryBytes) (s : Sized (w .processor)) (code : ℕ) where
+module _ (w : World) (whole : Whole w) (s : Sized (w .processor)) (code : ℕ) where
   command-there : registerOf (withRegister (w .processor) 0 code) 0 ≡ code
   command-there = getD-set-same (w .processor .registers) 0 code 0 (rw (s .0) (omega arith))
 
-  module _ (c : Command) (is : commandOf code ≡ c) (u : isUnlisted c ≡ false) (a : isAstray c (withRegister (w .processor) 0 code) ≡ false) where
+  module _
+      (c : Command) (is : commandOf code ≡ c) (u : isUnlisted c ≡ false) (a : isAstray c (withRegister (w .processor) 0 code) ≡ false)
+      (f : isUnfitted c (withRegister (w .processor) 0 code) ≡ false) where
     first-none : firstOf (order (execute code) w) ≡ 0
-    first-none = rw (eq-eqb _ _ whole, command-there, is, u, a)
+    first-none = rw (eq-eqb _ _ whole, command-there, is, u, a, f)
 
     pub execute-reply : replyTo (execute code) w ≡ reply 0 0
     execute-reply = answered-in-order (execute code) w ∙ ap (λ (n : ℕ). reply n 0) first-none
@@ -138,13 +140,13 @@ accepted [] = []
 accepted (p ∷ ps) = reply 0 0 ∷ accepted ps
 
 pub puts-set :
-    (ps : List Put) → Named ps → (w : World) → length (w .memory) ≡ memoryBytes →
+    (ps : List Put) → Named ps → (w : World) → Whole w →
     run (puts ps) w ≡ worldWith w (withRegisters (w .processor) (putInto ps (w .processor .registers))) (w .memory) (w .picture)
 puts-set [] named w whole = refl
 puts-set (p ∷ ps) named w whole =
     ap (run (puts ps)) (put-step w whole (p .register) (p .value) (named .0)) ∙ puts-set ps (named .1) (written-in w (p .register) (p .value)) whole
 
-pub puts-replies : (ps : List Put) → Named ps → (w : World) → length (w .memory) ≡ memoryBytes → replies (puts ps) w ≡ accepted ps
+pub puts-replies : (ps : List Put) → Named ps → (w : World) → Whole w → replies (puts ps) w ≡ accepted ps
 puts-replies [] named w whole = refl
 puts-replies (p ∷ ps) named w whole =
     let n = p .register in
@@ -165,7 +167,7 @@ abbrev pub Holds : List Put → Processor → Type 0
 Holds [] q = Unit {0}
 Holds (p ∷ ps) q = ((1 ≤ p .register) × (p .register < 8) × (registerOf q (p .register) ≡ p .value)) × Holds ps q
 
-pub gets-replies : (ps : List Put) (w : World) → length (w .memory) ≡ memoryBytes → Holds ps (w .processor) → replies (gets ps) w ≡ answers ps
+pub gets-replies : (ps : List Put) (w : World) → Whole w → Holds ps (w .processor) → replies (gets ps) w ≡ answers ps
 gets-replies [] w whole holds = refl
 gets-replies (p ∷ ps) w whole holds =
     let n = p .register in

@@ -39,7 +39,8 @@ access-quiet address v k p =
       not-executed = λ m a x e. refl;
       not-listed = λ m a x u e. refl;
       bad-pointer = λ m a x u s e. refl;
-      accepted = λ m a x u s e. effect-keeps isStore _ (unstored (k .memory)) (commandIn p) (rw x at e) (chip p (k .memory)) (λ z. s) refl;
+      not-fitted = λ m a x u s f e. refl;
+      accepted = λ m a x u s f e. effect-keeps isStore _ (unstored (k .memory)) (commandIn p) (rw x at e) (chip p (k .memory)) (λ z. s) refl;
     }
 
 pub quiet-step : (o : Operation) (w : World) → stores o w ≡ false → step o w .memory ≡ w .memory

@@ -1,4 +1,4 @@
--- An operation that is accepted and asks for execution has run its command, at a legal pointer if it has one.
+-- An operation that is accepted and asks for execution has run its command, where all its bytes are legal and fitted.
 -- Assumes nothing.
 use Prim.Native.Nat.{ℕ}
 use mathlib.Core.Path.{_≡_, refl, sym, ap, _∙_}
@@ -11,20 +11,22 @@ use borrow.Author.Tests.{eqb-true}
 use Rattle.basics.specs.Bits.{isSet}
 use Rattle.basics.specs.Choice.{pick}
 use Rattle.basics.proofs.Choice.{and-left, and-right}
-use Rattle.address.specs.Boards.{memoryBytes}
+use Rattle.address.specs.Boards.{bytesOf}
 use Rattle.command.specs.declared.Command.{Command}
 use Rattle.command.specs.declared.Command.the-variants.{Nop, Ind, Krf, Oct, Krl, NotListed}
 use Rattle.command.specs.Answers.{numberOf}
 use Rattle.processor.specs.declared.state.Processor.{Processor}
 use Rattle.processor.specs.States.{Chip, chip}
-use Rattle.processor.specs.Access.{Outcome, effect, isAstray}
+use Rattle.processor.specs.Access.{Outcome, effect, isAstray, isUnfitted}
 use Rattle.kept.specs.Quiet.{asks, commandRun}
 use Rattle.kept.specs.Runs.{Operation, write, read, turn, draw, World, done, lentOf, memoryLent, registered, chipLent}
 use Rattle.kept.proofs.Walk.{Ends, commandIn, write-known, read-known}
 
 -- c is the command, k what the register access left
 abbrev Ran : Command → Chip → Processor → List ℕ → Type 0
-Ran c k p m = (p ≡ effect c k .processor) × (m ≡ effect c k .memory) × (length (k .memory) ≡ memoryBytes) × (isAstray c (k .processor) ≡ false)
+Ran c k p m =
+    (p ≡ effect c k .processor) × (m ≡ effect c k .memory) × (length (k .memory) ≡ bytesOf (k .processor .blocks))
+    × (isAstray c (k .processor) ≡ false) × (isUnfitted c (k .processor) ≡ false)
 
 access-ran :
     (address v : ℕ) (k : Chip) (p : Processor) → isSet 3 address ≡ true →
@@ -36,7 +38,8 @@ access-ran address v k p asked =
       not-executed = λ m a x e. absurd (false≢true (sym x ∙ asked));
       not-listed = λ m a x u e. absurd (omega arith);
       bad-pointer = λ m a x u s e. absurd (omega arith);
-      accepted = λ m a x u s e. (refl, refl, eqb-true _ _ m, s);
+      not-fitted = λ m a x u s f e. absurd (omega arith);
+      accepted = λ m a x u s f e. (refl, refl, eqb-true _ _ m, s, f);
     }
 
 -- the state and the memory at which the command of an operation runs

@@ -1,4 +1,4 @@
--- Demand 1: each number from 0 to 9 is given, after a run of operations from power-up. The memory, the ROM and the picture are of zeros.
+-- Demand 1: each number of an operation is given, after a run of operations from power-up. The memory, the ROM and the picture are of zeros.
 -- Assumes nothing.
 use Prim.Native.Nat.{ℕ, _<_}
 use mathlib.Core.Path.{_≡_, refl, sym, ap, subst, _∙_}
@@ -7,20 +7,23 @@ use mathlib.Core.List.{List, [], _∷_}
 use mathlib.Core.Logic.{_≢_, inl}
 use native.Mathlib.Omega.{arith}
 use lib.ListN.{length, replicate, length-replicate, length-set}
-use Rattle.address.specs.Boards.{memoryBytes}
-use Rattle.address.specs.Triples.{legalIn, onPage, legalY}
+use Rattle.address.specs.Addresses.{addressOf}
+use Rattle.address.specs.Boards.{isBoard, fullBoard, bytesOf}
+use Rattle.address.specs.Places.{placeOf}
+use Rattle.address.specs.Triples.{onPage, legalY}
 use Rattle.shown.specs.Lengths.{romBytes, fortyBytes, pictureBytes}
 use Rattle.shown.specs.Modes.{isEighty}
 use Rattle.shown.specs.Refusals.{refused7, refused8}
 use Rattle.command.specs.declared.Command.the-variants.{Ind}
 use Rattle.command.specs.Commands.{commandOf}
-use Rattle.processor.specs.States.{powerUp, withRegister, indirectWritten}
+use Rattle.processor.specs.States.{poweredUp, withRegister, indirectWritten}
 use Rattle.processor.specs.Access.{indirect}
 use Rattle.processor.specs.Pointers.{pointerOf}
 use Rattle.processor.specs.Sizes.{Sized}
 use Rattle.kept.specs.Demands.{Gives, EachNumberReached, put, execute}
 use Rattle.kept.specs.Premises.{Fair}
 use Rattle.kept.specs.Runs.{own, other, Operation, write, turn, draw, World, first, step, run, done}
+use Rattle.kept.proofs.Boards.{Whole, power-up-whole}
 use Rattle.kept.proofs.Numbers.{number-first}
 use Rattle.kept.proofs.Programs.{written-in, put-step, execute-step}
 use Rattle.kept.proofs.Refusals.{worldWith}
@@ -33,65 +36,77 @@ pub long : (n : ℕ) → length (zeros n) ≡ n
 unfolding zeros
 long n = length-replicate n 0
 
--- power-up
+-- power-up of the 16 block board
+abbrev pub memoryBytes : ℕ
+memoryBytes = bytesOf fullBoard
+
 abbrev pub picture : List ℕ
 picture = zeros (pictureBytes fortyBytes)
 
 abbrev pub at-first : World
-at-first = first (zeros memoryBytes) (zeros romBytes) picture
+at-first = first fullBoard (zeros memoryBytes) (zeros romBytes) picture
+
+pub whole : Whole at-first
+whole = power-up-whole fullBoard (zeros memoryBytes) (long memoryBytes)
 
 pub sized : Sized (at-first .processor)
-sized = power-up-sized
+sized = power-up-sized fullBoard
 
 -- an operation at once
 at-once : (o : Operation) (n : ℕ) → Fair o at-first → done o at-first .number ≡ n → Gives n
 at-once o n g e =
-    record { memory = zeros memoryBytes; rom = zeros romBytes; picture = picture; before = []; last = o; fair = (g, tt); happens = e }
+    record { blocks = fullBoard; board = refl; memory = zeros memoryBytes; rom = zeros romBytes; picture = picture; before = []; last = o; fair = (g, tt); happens = e }
 
 -- no list is as long as a memory, a ROM or a picture
 none-long : (n : ℕ) → 0 < n → length {A = ℕ} [] ≢ n
 none-long n l e = omega arith
 
 gives-0 : Gives 0
-unfolding powerUp commandOf
+unfolding poweredUp commandOf
 gives-0 = at-once (write own 0x20 0x00) 0 tt (number-first (write own 0x20 0x00) at-first ∙ rw (long memoryBytes))
 
 gives-1 : Gives 1
+unfolding poweredUp
 gives-1 = at-once (write (other []) 0x20 0x00) 1 (none-long memoryBytes (omega arith)) (number-first (write (other []) 0x20 0x00) at-first)
 
 gives-2 : Gives 2
+unfolding poweredUp
 gives-2 = at-once (write own 0x30 0x00) 2 tt (number-first (write own 0x30 0x00) at-first ∙ rw (long memoryBytes))
 
 gives-3 : Gives 3
-unfolding powerUp commandOf
+unfolding poweredUp commandOf
 gives-3 = at-once (write own 0x28 0x05) 3 tt (number-first (write own 0x28 0x05) at-first ∙ rw (long memoryBytes))
 
 gives-5 : Gives 5
+unfolding poweredUp
 gives-5 =
     let o = draw own (other []) own in
     at-once o 5 (tt, none-long romBytes (omega arith), inl tt) (number-first o at-first ∙ rw (long memoryBytes))
 
 gives-6 : Gives 6
-unfolding powerUp isEighty refused7
+unfolding poweredUp isEighty refused7
 gives-6 =
     let o = draw own own (other []) in
     at-once o 6 (tt, tt, inl (none-long (pictureBytes fortyBytes) (omega arith))) (number-first o at-first ∙ rw (long memoryBytes, long romBytes))
 
 -- at power-up the origin is 0
 gives-8 : Gives 8
-unfolding powerUp isEighty refused7 refused8
+unfolding poweredUp isEighty refused7 refused8
 gives-8 =
     at-once (draw own own own) 8 (tt, tt, inl tt)
     (number-first (draw own own own) at-first ∙ rw (long memoryBytes, long romBytes, long (pictureBytes fortyBytes)))
 
 gives-9 : Gives 9
+unfolding poweredUp
 gives-9 = at-once (turn own 2) 9 tt (number-first (turn own 2) at-first ∙ rw (long memoryBytes))
 
 -- KRF at X 40, which is written to R7 first
 gives-4 : Gives 4
-unfolding powerUp commandOf pointerOf legalIn onPage legalY
+unfolding poweredUp commandOf pointerOf addressOf onPage legalY placeOf
 gives-4 =
     record {
+      blocks = fullBoard;
+      board = refl;
       memory = zeros memoryBytes;
       rom = zeros romBytes;
       picture = picture;
@@ -99,8 +114,24 @@ gives-4 =
       last = execute 0x00;
       fair = (tt, (tt, tt));
       happens =
-          subst (λ (w : World). done (execute 0x00) w .number ≡ 4) (sym (put-step at-first (long memoryBytes) 7 40 (omega arith)))
+          subst (λ (w : World). done (execute 0x00) w .number ≡ 4) (sym (put-step at-first whole 7 40 (omega arith)))
           (number-first (execute 0x00) (written-in at-first 7 40) ∙ rw (long memoryBytes));
+    }
+
+-- KRF at (0, 0, 0) of a 2 block board: A is in block 2
+gives-11 : Gives 11
+unfolding poweredUp commandOf pointerOf addressOf onPage legalY placeOf
+gives-11 =
+    record {
+      blocks = 2;
+      board = refl;
+      memory = zeros (bytesOf 2);
+      rom = zeros romBytes;
+      picture = picture;
+      before = [];
+      last = execute 0x00;
+      fair = (tt, tt);
+      happens = number-first (execute 0x00) (first 2 (zeros (bytesOf 2)) (zeros romBytes) picture) ∙ rw (long (bytesOf 2));
     }
 
 -- IND: v written to R1 and from there to the register that the command names
@@ -111,25 +142,27 @@ abbrev pub set-in : World → ℕ → ℕ → ℕ → World
 set-in w v code r = worldWith w (indirectWritten (withRegister (withRegister (w .processor) 1 v) 0 code) r) (w .memory) (w .picture)
 
 pub setting-in :
-    (w : World) → length (w .memory) ≡ memoryBytes → Sized (w .processor) → (v code r : ℕ) → commandOf code ≡ Ind r false →
+    (w : World) → Whole w → Sized (w .processor) → (v code r : ℕ) → commandOf code ≡ Ind r false →
     run (setting v code) w ≡ set-in w v code r
 unfolding indirect
 setting-in w whole s v code r is =
     ap (step (execute code)) (put-step w whole 1 v (omega arith))
-    ∙ execute-step (written-in w 1 v) whole (length-set (w .processor .registers) 1 v ∙ s .0, s .1, s .2) code (Ind r false) is refl refl refl
+    ∙ execute-step (written-in w 1 v) whole (length-set (w .processor .registers) 1 v ∙ s .0, s .1, s .2) code (Ind r false) is refl refl refl refl
 
 -- the same from power-up
 abbrev pub set-up : ℕ → ℕ → ℕ → World
 set-up v code r = set-in at-first v code r
 
 pub setting-up : (v code r : ℕ) → commandOf code ≡ Ind r false → run (setting v code) at-first ≡ set-up v code r
-setting-up = setting-in at-first (long memoryBytes) sized
+setting-up = setting-in at-first whole sized
 
 -- 128 in TGS
 gives-7 : Gives 7
-unfolding powerUp commandOf indirectWritten isEighty refused7
+unfolding poweredUp commandOf indirectWritten isEighty refused7
 gives-7 =
     record {
+      blocks = fullBoard;
+      board = refl;
       memory = zeros memoryBytes;
       rom = zeros romBytes;
       picture = picture;
@@ -142,4 +175,4 @@ gives-7 =
     }
 
 pub each-number-reached : EachNumberReached
-each-number-reached = (gives-0, gives-1, gives-2, gives-3, gives-4, gives-5, gives-6, gives-7, gives-8, gives-9)
+each-number-reached = (gives-0, gives-1, gives-2, gives-3, gives-4, gives-5, gives-6, gives-7, gives-8, gives-9, gives-11)

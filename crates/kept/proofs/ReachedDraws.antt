@@ -12,22 +12,23 @@ use Rattle.basics.specs.Below.{countBelow, anyBelow}
 use Rattle.basics.specs.Parts.{joined}
 use Rattle.basics.proofs.Below.{count-some, count-less}
 use Rattle.basics.proofs.Parts.{table-at, length-table}
-use Rattle.address.specs.Boards.{memoryBytes}
+use Rattle.address.specs.Addresses.{addressOf}
+use Rattle.address.specs.Boards.{fullBoard}
 use Rattle.address.specs.Places.{placeOf}
 use Rattle.address.specs.Rows.{rowY}
-use Rattle.address.specs.Triples.{legalIn, onPage, legalY}
+use Rattle.address.specs.Triples.{onPage, legalY}
 use Rattle.shown.specs.declared.Shown.{Shown}
 use Rattle.shown.specs.Lengths.{romBytes, fortyBytes, eightyBytes, pictureBytes}
 use Rattle.shown.specs.Modes.{isEighty}
 use Rattle.shown.specs.Refusals.{refused7, refused8, canDraw}
-use Rattle.page.specs.Codes.{codeOf}
+use Rattle.page.specs.Codes.{codeAddress, codeAt}
 use Rattle.page.specs.Marks.{isMarked, markedRows, noneMarked}
 use Rattle.picture.specs.Redraws.{redrawn}
 use Rattle.picture.proofs.Redrawing.{redrawn-long}
-use Rattle.reading.specs.Lists.{codePlace, codeHolds, rowHolds, cellHolds, slicesHold, hasTall, aboveHolds, onList}
+use Rattle.reading.specs.Lists.{codeHolds, rowHolds, cellHolds, slicesHold, hasTall, aboveHolds, onList}
 use Rattle.command.specs.declared.Command.the-variants.{Ind, Oct}
 use Rattle.command.specs.Commands.{commandOf}
-use Rattle.processor.specs.States.{chip, powerUp, shownOf, withRegister, withMarks, cleared, indirectWritten}
+use Rattle.processor.specs.States.{chip, poweredUp, shownOf, withRegister, withMarks, cleared, indirectWritten}
 use Rattle.processor.specs.Bytes.{oct, stored}
 use Rattle.processor.specs.Draws.{DrawOutcome, drawnPage}
 use Rattle.processor.specs.Pointers.{pointerOf, incrementedIf}
@@ -40,21 +41,21 @@ use Rattle.kept.specs.Runs.{Lent, own, other, Operation, draw, World, st
 use Rattle.kept.proofs.Numbers.{answered-in-order}
 use Rattle.kept.proofs.Programs.{execute-step}
 use Rattle.kept.proofs.Marks.{store-marks-exact}
-use Rattle.kept.proofs.Reached.{zeros, long, picture, at-first, setting, set-in, setting-in, set-up, setting-up}
+use Rattle.kept.proofs.Reached.{zeros, long, memoryBytes, picture, at-first, setting, set-in, setting-in, set-up, setting-up}
 use Rattle.kept.proofs.Refusals.{worldWith}
 use Rattle.kept.proofs.Walk.{draw-known}
 
 -- what is shown with ROR 8: row 0 is Y 0 and row 1 is Y 8
 abbrev plainly : Shown
-plainly = record { tgs = 0; mat = 0; pat = 0; dor = 0; ror = 8; phase = 0 }
+plainly = record { tgs = 0; mat = 0; pat = 0; dor = 0; ror = 8; phase = 0; blocks = fullBoard }
 
 -- the byte at place 0 is C of the first cell of row 0, and nothing that row 1 reads: no cell of zeros is tall or has slices in memory
 listed : onList plainly (zeros memoryBytes) 0 0 ≡ true
-unfolding zeros onList rowHolds codeHolds codePlace anyBelow placeOf rowY
+unfolding zeros onList rowHolds codeHolds codeAddress addressOf onPage legalY anyBelow placeOf rowY
 listed = refl
 
 unlisted : onList plainly (zeros memoryBytes) 0 1 ≡ false
-unfolding zeros onList rowHolds codeHolds codePlace anyBelow slicesHold cellHolds hasTall aboveHolds codeOf placeOf rowY cellOf bichromeOf setOf isTall isEighty
+unfolding zeros onList rowHolds codeHolds codeAddress addressOf onPage legalY anyBelow slicesHold cellHolds hasTall aboveHolds codeAt placeOf rowY cellOf bichromeOf setOf isTall isEighty
 unlisted = refl
 
 ror-listed : commandOf 0x87 ≡ Ind 7 false
@@ -66,11 +67,11 @@ abbrev shown-all : World
 shown-all = set-up 8 0x87 7
 
 all-first : firstOf (order (draw own own own) shown-all) ≡ 0
-unfolding powerUp indirectWritten isEighty refused7 refused8
+unfolding poweredUp indirectWritten isEighty refused7 refused8
 all-first = rw (long memoryBytes, long romBytes, long (pictureBytes fortyBytes))
 
 all-rows : markedRows (shown-all .processor .marks) 25 ≡ 25
-unfolding powerUp indirectWritten countBelow joined
+unfolding poweredUp indirectWritten countBelow joined
 all-rows = refl
 
 -- an accepted draw's answer, and what it leaves
@@ -97,6 +98,8 @@ draws-all : Redraws (λ n. n ≡ 25)
 draws-all =
     let said = subst (λ (w : World). replyTo (draw own own own) w ≡ reply 0 25) (sym (setting-up 8 0x87 7 ror-listed)) (draw-said own shown-all 25 all-first all-rows) in
     record {
+      blocks = fullBoard;
+      board = refl;
       memory = zeros memoryBytes;
       rom = zeros romBytes;
       picture = picture;
@@ -122,23 +125,23 @@ after-store =
     worldWith after-draw (oct false false false k .processor) (oct false false false k .memory) (after-draw .picture)
 
 storing : step (execute 0x30) after-draw ≡ after-store
-unfolding commandOf powerUp indirectWritten pointerOf legalIn onPage legalY
+unfolding commandOf poweredUp indirectWritten pointerOf addressOf onPage legalY placeOf
 storing =
-    execute-step after-draw (long memoryBytes) (refl, refl, length-table (λ r. false) 25) 0x30 (Oct false false false) refl refl refl refl
+    execute-step after-draw (long memoryBytes) (refl, refl, length-table (λ r. false) 25) 0x30 (Oct false false false) refl refl refl refl refl
 
 -- then row 0 is marked, and row 1 is not
 abbrev marked : ℕ → Bool
 marked r = isMarked (after-store .processor .marks) r
 
 marked-by-list : (r : ℕ) → r < 25 → marked r ≡ onList plainly (zeros memoryBytes) 0 r
-unfolding zeros powerUp indirectWritten oct incrementedIf pointerOf placeOf canDraw isEighty refused7 refused8
+unfolding zeros poweredUp indirectWritten oct incrementedIf pointerOf placeOf canDraw isEighty refused7 refused8
 marked-by-list r l =
     store-marks-exact (pointerOf false (after-draw .processor)) 8 (chip (cleared (withRegister (after-draw .processor) 0 0x30)) (zeros memoryBytes)) r l
     ∙ ap (λ (b : Bool). b || onList plainly (zeros memoryBytes) 0 r) (table-at (λ s. false) 25 r false l)
 
 -- the draw after it
 after-long : length (after-draw .picture) ≡ pictureBytes fortyBytes
-unfolding isEighty indirectWritten powerUp
+unfolding isEighty indirectWritten poweredUp
 after-long = redrawn-long (shown-all .processor .marks) picture (zeros memoryBytes) (zeros romBytes) (shownOf (shown-all .processor)) (long (pictureBytes fortyBytes))
 
 stored-memory : length (after-store .memory) ≡ memoryBytes
@@ -146,7 +149,7 @@ unfolding oct stored
 stored-memory = length-set (zeros memoryBytes) _ _ ∙ long memoryBytes
 
 some-first : firstOf (order (draw own own own) after-store) ≡ 0
-unfolding powerUp indirectWritten oct incrementedIf stored isEighty refused7 refused8
+unfolding poweredUp indirectWritten oct incrementedIf stored isEighty refused7 refused8
 some-first = rw (stored-memory, long romBytes, after-long)
 
 -- the whole run
@@ -163,6 +166,8 @@ draws-some =
     let said = subst (λ (w : World). replyTo (draw own own own) w ≡ reply 0 n) (sym before-some-run) (draw-said own after-store n some-first refl) in
     let rows = ap (λ (a : Reply). a .value) said in
     record {
+      blocks = fullBoard;
+      board = refl;
       memory = zeros memoryBytes;
       rom = zeros romBytes;
       picture = picture;
@@ -188,19 +193,19 @@ unfolding commandOf
 tgs-listed = refl
 
 turning : run (setting 0xC0 0x81) after-draw ≡ turned
-unfolding powerUp indirectWritten
+unfolding poweredUp indirectWritten
 turning = setting-in after-draw (long memoryBytes) (refl, refl, length-table (λ r. false) 25) 0xC0 0x81 1 tgs-listed
 
 turned-eighty : isEighty (shownOf (turned .processor)) ≡ true
-unfolding powerUp indirectWritten isEighty
+unfolding poweredUp indirectWritten isEighty
 turned-eighty = refl
 
 turned-marked : EveryRowMarked turned
-unfolding powerUp indirectWritten
+unfolding poweredUp indirectWritten
 turned-marked r l = table-at (λ s. true) 25 r false l
 
 turned-rows : markedRows (turned .processor .marks) 25 ≡ 25
-unfolding powerUp indirectWritten countBelow joined
+unfolding poweredUp indirectWritten countBelow joined
 turned-rows = refl
 
 -- another picture is lent, of 60,000 bytes
@@ -208,7 +213,7 @@ abbrev longer : Lent
 longer = other (zeros (pictureBytes eightyBytes))
 
 turned-first : firstOf (order (draw own own longer) turned) ≡ 0
-unfolding powerUp indirectWritten isEighty refused7 refused8
+unfolding poweredUp indirectWritten isEighty refused7 refused8
 turned-first = rw (long memoryBytes, long romBytes, long (pictureBytes eightyBytes))
 
 abbrev isOther : Lent → Bool
@@ -241,6 +246,8 @@ turned-wide =
 draws-eighty : EightyReached
 draws-eighty =
     record {
+      blocks = fullBoard;
+      board = refl;
       memory = zeros memoryBytes;
       rom = zeros romBytes;
       picture = picture;

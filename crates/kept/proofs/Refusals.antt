@@ -1,4 +1,4 @@
--- Demand 1: what a refused operation leaves. After 3 or 4 the register access has happened, and nothing else; after the others nothing has
+-- Demand 1: what a refused operation leaves. After 3, 4 or 11 the register access has happened, and nothing else; after the others nothing has
 -- changed.
 -- Assumes nothing.
 use Prim.Native.Nat.{ℕ}
@@ -31,7 +31,8 @@ access-leaves address v k p =
       not-executed = λ m a x n. absurd (n refl);
       not-listed = λ m a x u n. (refl, refl);
       bad-pointer = λ m a x u s n. (refl, refl);
-      accepted = λ m a x u s n. absurd (n refl);
+      not-fitted = λ m a x u s f n. (refl, refl);
+      accepted = λ m a x u s f n. absurd (n refl);
     }
 
 turn-leaves : (n : ℕ) (k : Chip) → Leaves k (k .processor) (turned n k)
@@ -64,7 +65,7 @@ pub worlds-same :
     (w : World) (p q : Processor) (m n a b : List ℕ) → p ≡ q → m ≡ n → a ≡ b → worldWith w p m a ≡ worldWith w q n b
 worlds-same w p q m n a b ep em ea = rw (ep, em, ea)
 
--- nothing is changed where the number is not 3 or 4, or no register was written
+-- nothing is changed where the number is not 3, 4 or 11, or no register was written
 memory-stays : (x : Lent) (before left : List ℕ) → left ≡ lentOf x before → memoryKept x before left ≡ before
 memory-stays own before left e = e
 memory-stays (other b) before left e = refl

@@ -9,10 +9,11 @@ use native.Mathlib.Omega.{arith}
 use lib.Dec.{eqb}
 use lib.ListN.{length, getD, set, length-set}
 use lib.Seq.{getD-set-same, getD-set-other}
-use borrow.Author.Tests.{not-false}
 use Rattle.basics.proofs.Choice.{pick-either}
 use Rattle.basics.specs.Bits.{bits, isSet}
-use Rattle.address.specs.Triples.{legal}
+use Rattle.address.specs.Triples.{legalIn}
+use Rattle.address.proofs.Fits.{Code, Narrow, byte-legal, code-legal, narrow-legal}
+use Rattle.address.proofs.Laws.{legal-page}
 use Rattle.address.specs.declared.triple.Triple.{Triple}
 use Rattle.processor.specs.declared.state.Processor.{Processor}
 use Rattle.processor.specs.States.{chip, registerOf, cleared}
@@ -20,7 +21,7 @@ use Rattle.processor.specs.Pointers.{pointerOf, nextX, incremented, incremented
 use Rattle.address.specs.Narrow.{isOdd, neighbourAt, attributesAt, nibbleFor, bothHalves}
 use Rattle.address.specs.Places.{blockAt, loaded}
 use Rattle.processor.specs.Bytes.{stored, oct, codeRead, codeStored, krf, narrowRead, narrowStored, krl}
-use Rattle.address.specs.Boards.{memoryBytes}
+use Rattle.address.specs.Boards.{bytesOf}
 use Rattle.command.specs.declared.Command.{Command}
 use Rattle.command.specs.declared.Command.the-variants.{Krf, Oct, Krl}
 use Rattle.processor.specs.Access.{effect}
@@ -78,7 +79,7 @@ module _ (l : List ℕ) (c b a : ℕ) (eight : length l ≡ 8) where
 
 -- three code bytes: p stores them with KRF, and later, the memory being the one that was left, q reads them with KRF
 module _
-    (p q : Processor) (m : List ℕ) (w r : Bool) (g : legal (pointerOf false p) ≡ true) (l : length m ≡ memoryBytes)
+    (p q : Processor) (m : List ℕ) (w r : Bool) (g : Code (p .blocks) (pointerOf false p)) (l : length m ≡ bytesOf (p .blocks))
     (same : pointerOf false q ≡ pointerOf false p) (eight : length (q .registers) ≡ 8) where
   abbrev left : List ℕ
   left = codeStored (pointerOf false p) (chip (cleared p) m) .memory
@@ -95,7 +96,7 @@ module _
       asked-keeps r false _ 1 (omega arith)
       ∙ first (q .registers) (got 0) (got 1) (got 2) eight
       ∙ ap (λ (t : Triple). loaded (blockAt t 0) left) same
-      ∙ code-c (pointerOf false p) (chip (cleared p) m) g l
+      ∙ code-c (p .blocks) (pointerOf false p) (chip (cleared p) m) g l
 
   round-b : registerOf codeRound 2 ≡ registerOf p 2
   unfolding krf codeRead
@@ -103,7 +104,7 @@ module _
       asked-keeps r false _ 2 (omega arith)
       ∙ second (q .registers) (got 0) (got 1) (got 2) eight
       ∙ ap (λ (t : Triple). loaded (blockAt t 1) left) same
-      ∙ code-b (pointerOf false p) (chip (cleared p) m) g l
+      ∙ code-b (p .blocks) (pointerOf false p) (chip (cleared p) m) g l
 
   round-a : registerOf codeRound 3 ≡ registerOf p 3
   unfolding krf codeRead
@@ -111,7 +112,7 @@ module _
       asked-keeps r false _ 3 (omega arith)
       ∙ third (q .registers) (got 0) (got 1) (got 2) eight
       ∙ ap (λ (t : Triple). loaded (blockAt t 2) left) same
-      ∙ code-a (pointerOf false p) (chip (cleared p) m) g l
+      ∙ code-a (p .blocks) (pointerOf false p) (chip (cleared p) m) g l
 
   round-code : (n : ℕ) → 1 ≤ n → n ≤ 3 → registerOf codeRound n ≡ registerOf p n
   round-code zero a b = absurd (omega arith)
@@ -122,7 +123,7 @@ module _
 
 -- one byte by OCT, through either pointer each time
 module _
-    (x y : Bool) (p q : Processor) (m : List ℕ) (w r : Bool) (g : legal (pointerOf x p) ≡ true) (l : length m ≡ memoryBytes)
+    (x y : Bool) (p q : Processor) (m : List ℕ) (w r : Bool) (g : legalIn (p .blocks) (pointerOf x p) ≡ true) (l : length m ≡ bytesOf (p .blocks))
     (same : pointerOf y q ≡ pointerOf x p) (eight : length (q .registers) ≡ 8) where
   abbrev byteRound : Processor
   byteRound = oct true y r (chip q (oct false x w (chip p m) .memory)) .processor
@@ -133,11 +134,11 @@ module _
       asked-keeps r y _ 1 (omega arith)
       ∙ getD-set-same (q .registers) 1 _ 0 (rw eight (omega arith))
       ∙ ap (λ (t : Triple). loaded t (stored (pointerOf x p) (registerOf p 1) (chip (cleared p) m) .memory)) same
-      ∙ stored-here (pointerOf x p) (registerOf p 1) (chip (cleared p) m) g l
+      ∙ stored-here (p .blocks) (pointerOf x p) (registerOf p 1) (chip (cleared p) m) g l
 
 -- a 12-bit code by KRL
 module _
-    (p q : Processor) (m : List ℕ) (w r : Bool) (g : legal (pointerOf false p) ≡ true) (l : length m ≡ memoryBytes)
+    (p q : Processor) (m : List ℕ) (w r : Bool) (g : Narrow (p .blocks) (pointerOf false p)) (l : length m ≡ bytesOf (p .blocks))
     (same : pointerOf false q ≡ pointerOf false p) (eight : length (q .registers) ≡ 8) where
   abbrev narrowLeft : List ℕ
   narrowLeft = narrowStored (pointerOf false p) (chip (cleared p) m) .memory
@@ -152,7 +153,7 @@ module _
       ∙ getD-set-other (set (q .registers) 1 _) 3 1 _ 0 (λ e. omega arith)
       ∙ getD-set-same (q .registers) 1 _ 0 (rw eight (omega arith))
       ∙ ap (λ (t : Triple). loaded t narrowLeft) same
-      ∙ narrow-c (pointerOf false p) (chip (cleared p) m) g l
+      ∙ narrow-c (pointerOf false p) (chip (cleared p) m) (legal-page (p .blocks) (pointerOf false p) (g .0)) (p .blocks) g l
 
   round-nibble : registerOf narrowRound 3 ≡ bothHalves (nibbleFor (isOdd (pointerOf false p)) (registerOf p 3))
   unfolding krl narrowRead
@@ -160,7 +161,7 @@ module _
       advance-keeps r _ 3 (omega arith)
       ∙ getD-set-same (set (q .registers) 1 _) 3 _ 0 (rw (length-set (q .registers) 1 _, eight) (omega arith))
       ∙ ap (λ (t : Triple). bothHalves (nibbleFor (isOdd t) (loaded (attributesAt t) narrowLeft))) same
-      ∙ ap bothHalves (narrow-a (pointerOf false p) (chip (cleared p) m) g l)
+      ∙ ap bothHalves (narrow-a (pointerOf false p) (chip (cleared p) m) (legal-page (p .blocks) (pointerOf false p) (g .0)) (p .blocks) g l)
 
 -- the register access keeps the number of registers
 registered-eight : (o : Operation) (w : World) → Sized (w .processor) → length (registered o w .registers) ≡ 8
@@ -199,7 +200,7 @@ module _ (w : World) (s : Sized (w .processor)) (o : Operation) (between : List 
         command-ran q u d nd ed .0
         ∙ ap (λ (m : List ℕ). effect d (chip (registered q u) m) .processor) (lent-own (memoryLent q) (u .memory) oq ∙ then-stored)
 
-    whole-then : length (w .memory) ≡ memoryBytes
+    whole-then : length (w .memory) ≡ bytesOf (registered o w .blocks)
     whole-then = ap length (sym (lent-own (memoryLent o) (w .memory) oo)) ∙ command-ran o w c nc ec .2
 
   pub code-kept-in :
@@ -208,7 +209,7 @@ module _ (w : World) (s : Sized (w .processor)) (o : Operation) (between : List 
       (n : ℕ) → 1 ≤ n → n ≤ 3 → registerOf (step q u .processor) n ≡ registerOf (registered o w) n
   code-kept-in i j oo ec quiet oq ed same n a b =
       ap (λ (p : Processor). registerOf p n) (then-read (Krf false i) (Krf true j) refl refl oo oq ec ed quiet)
-      ∙ round-code (registered o w) (registered q u) (w .memory) i j (not-false _ (command-ran o w (Krf false i) refl ec .3))
+      ∙ round-code (registered o w) (registered q u) (w .memory) i j (let ran = command-ran o w (Krf false i) refl ec in code-legal _ _ (ran .3) (ran .4))
       (whole-then (Krf false i) (Krf true j) refl refl oo oq ec ed quiet) same eight-then n a b
 
   pub byte-kept-in :
@@ -217,7 +218,7 @@ module _ (w : World) (s : Sized (w .processor)) (o : Operation) (between : List 
       registerOf (step q u .processor) 1 ≡ registerOf (registered o w) 1
   byte-kept-in x y i j oo ec quiet oq ed same =
       ap (λ (p : Processor). registerOf p 1) (then-read (Oct false x i) (Oct true y j) refl refl oo oq ec ed quiet)
-      ∙ round-byte x y (registered o w) (registered q u) (w .memory) i j (not-false _ (command-ran o w (Oct false x i) refl ec .3))
+      ∙ round-byte x y (registered o w) (registered q u) (w .memory) i j (let ran = command-ran o w (Oct false x i) refl ec in byte-legal _ _ (ran .3) (ran .4))
       (whole-then (Oct false x i) (Oct true y j) refl refl oo oq ec ed quiet) same eight-then
 
   pub narrow-kept-in :
@@ -227,7 +228,8 @@ module _ (w : World) (s : Sized (w .processor)) (o : Operation) (between : List 
       × (registerOf (step q u .processor) 3 ≡ bothHalves (nibbleFor (isOdd (pointerOf false (registered o w))) (registerOf (registered o w) 3)))
   narrow-kept-in i j oo ec quiet oq ed same =
       let then = then-read (Krl false i) (Krl true j) refl refl oo oq ec ed quiet in
-      let ok = not-false _ (command-ran o w (Krl false i) refl ec .3) in
+      let ran = command-ran o w (Krl false i) refl ec in
+      let ok = narrow-legal _ _ (ran .3) (ran .4) in
       let whole = whole-then (Krl false i) (Krl true j) refl refl oo oq ec ed quiet in (
         ap (λ (p : Processor). registerOf p 1) then
             ∙ round-character (registered o w) (registered q u) (w .memory) i j ok whole same eight-then,
@@ -236,16 +238,16 @@ module _ (w : World) (s : Sized (w .processor)) (o : Operation) (between : List 
       )
 
 pub code-kept : CodeKept
-code-kept m rom picture before between o q i j =
-    let w = runs.first m rom picture in code-kept-in (run before w) (run-sized before w power-up-sized) o between q i j
+code-kept blocks m rom picture before between o q i j =
+    let w = runs.first blocks m rom picture in code-kept-in (run before w) (run-sized before w (power-up-sized blocks)) o between q i j
 
 pub byte-kept : ByteKept
-byte-kept m rom picture before between o q x y i j =
-    let w = runs.first m rom picture in byte-kept-in (run before w) (run-sized before w power-up-sized) o between q x y i j
+byte-kept blocks m rom picture before between o q x y i j =
+    let w = runs.first blocks m rom picture in byte-kept-in (run before w) (run-sized before w (power-up-sized blocks)) o between q x y i j
 
 pub narrow-kept : NarrowKept
-narrow-kept m rom picture before between o q i j =
-    let w = runs.first m rom picture in narrow-kept-in (run before w) (run-sized before w power-up-sized) o between q i j
+narrow-kept blocks m rom picture before between o q i j =
+    let w = runs.first blocks m rom picture in narrow-kept-in (run before w) (run-sized before w (power-up-sized blocks)) o between q i j
 
 -- what KRL leaves of the neighbour
 pub neighbour-kept : NeighbourKept
@@ -256,11 +258,12 @@ neighbour-kept o w i oo ec =
     let t = pointerOf false p in
     let m = lentOf (memoryLent o) (w .memory) in
     let k = chip (cleared p) m in
-    let ok = not-false (legal t) (ran .3) in
+    let ok = narrow-legal (p .blocks) t (ran .3) (ran .4) in
+    let page = legal-page (p .blocks) t (ok .0) in
     let left = kept-own o w oo ∙ ran .1 in
     let before = lent-own (memoryLent o) (w .memory) oo in (
-      ap (loaded (neighbourAt t)) left ∙ narrow-beside t k ok ∙ ap (loaded (neighbourAt t)) before,
+      ap (loaded (neighbourAt t)) left ∙ narrow-beside t k page ∙ ap (loaded (neighbourAt t)) before,
       ap (λ (n : List ℕ). nibbleFor (isOdd (neighbourAt t)) (loaded (attributesAt t) n)) left
-          ∙ narrow-nibble t k ok (ran .2)
+          ∙ narrow-nibble t k page (p .blocks) ok (ran .2)
           ∙ ap (λ (n : List ℕ). nibbleFor (isOdd (neighbourAt t)) (loaded (attributesAt t) n)) before,
     )

@@ -14,7 +14,7 @@ use Rattle.shown.specs.Refusals.{canDraw}
 use Rattle.page.specs.Marks.{allMarked, markedToo}
 use Rattle.reading.specs.Marks.{storeMarks, phaseMarks}
 use Rattle.processor.specs.declared.state.Processor.{Processor}
-use Rattle.processor.specs.States.{Chip, powerUp, registerOf, shownOf, indirectWritten}
+use Rattle.processor.specs.States.{Chip, poweredUp, registerOf, shownOf, indirectWritten}
 use Rattle.processor.specs.Bytes.{stored}
 use Rattle.processor.specs.Access.{Outcome, written, readOut, phased, turned}
 use Rattle.processor.specs.Draws.{DrawOutcome, drawnPage, drawn}
@@ -86,6 +86,6 @@ step-sized (draw x y z) w s = drawn-sized (w .processor) (lentOf x (w .memory)) 
 pub run-sized : (os : List Operation) (w : World) → Sized (w .processor) → Sized (run os w .processor)
 run-sized os w s = run-known (λ os u. Sized (u .processor)) (λ o os u h. step-sized o u h) os w s
 
-pub power-up-sized : Sized powerUp
-unfolding powerUp
-power-up-sized = (refl, refl, length-table (λ r. true) 25)
+pub power-up-sized : (blocks : ℕ) → Sized (poweredUp blocks)
+unfolding poweredUp
+power-up-sized blocks = (refl, refl, length-table (λ r. true) 25)

@@ -95,9 +95,9 @@ module _ (shown : Shown) (m : List ℕ) (marks : List Bool) (r : ℕ) (l : r < 2
 
   -- b is what is shown in another phase
   pub phase-keeps :
-      (b : Shown) → shown .tgs ≡ b .tgs → shown .mat ≡ b .mat → shown .pat ≡ b .pat → shown .dor ≡ b .dor → shown .ror ≡ b .ror →
+      (b : Shown) → shown .tgs ≡ b .tgs → shown .mat ≡ b .mat → shown .pat ≡ b .pat → shown .dor ≡ b .dor → shown .ror ≡ b .ror → shown .blocks ≡ b .blocks →
       canDraw shown ≡ true → isMarked (phaseMarks shown m marks) r ≡ false → (rom : List ℕ) → rowOf m rom shown r ≡ rowOf m rom b r
   unfolding phaseMarks
-  phase-keeps b tgs mat pat dor ror can e rom =
+  phase-keeps b tgs mat pat dor ror blocks can e rom =
       let none = not-passed (flashIn shown m) marks r l (rw can at e) in
-      row-steady shown b tgs pat dor ror m rom r mat (still-eighty none) (still-forty none)
+      row-steady shown b tgs pat dor ror blocks m rom r mat (still-eighty none) (still-forty none)

@@ -3,20 +3,18 @@
 use Prim.Native.Nat.{ℕ}
 use mathlib.Core.Path.{_≡_, refl, sym, ap, _∙_}
 use mathlib.Core.List.{List, [], _∷_, _++_}
-use lib.ListN.{length}
-use Rattle.address.specs.Boards.{memoryBytes}
 use Rattle.processor.specs.States.{withRegisters}
 use Rattle.processor.specs.Sizes.{Sized}
 use Rattle.kept.specs.Demands.{execute}
 use Rattle.kept.specs.Runs.{Operation, World, step, run, reply, Reply, replyTo, replies}
-use Rattle.kept.proofs.Memory.{run-long}
+use Rattle.kept.proofs.Boards.{Whole, run-whole}
 use Rattle.kept.proofs.Programs.{run-both, replies-both, replies-on, Put, puts, Named, putInto, accepted, puts-set, puts-replies}
 use Rattle.kept.proofs.Sizes.{run-sized}
 
 -- a trip: from a world that is ready, a command that stores; operations between; pointers set back; a command that reads
 pub record Trip : Type 0 where
   pub ready : World
-  pub whole : length (ready .memory) ≡ memoryBytes
+  pub whole : Whole ready
   pub sized : Sized (ready .processor)
   pub store : ℕ
   pub between : List Operation
@@ -35,8 +33,8 @@ module _ (t : Trip) where
   abbrev pub then : World
   then = run (t .between) (step storing (t .ready))
 
-  then-whole : length (then .memory) ≡ memoryBytes
-  then-whole = run-long (storing ∷ t .between) (t .ready) memoryBytes (t .whole)
+  then-whole : Whole then
+  then-whole = run-whole (storing ∷ t .between) (t .ready) (t .whole)
 
   pub then-sized : Sized (then .processor)
   then-sized = run-sized (storing ∷ t .between) (t .ready) (t .sized)
@@ -47,8 +45,8 @@ module _ (t : Trip) where
   abbrev pub there : World
   there = run back (step storing (t .ready))
 
-  pub there-whole : length (there .memory) ≡ memoryBytes
-  there-whole = run-long (storing ∷ back) (t .ready) memoryBytes (t .whole)
+  pub there-whole : Whole there
+  there-whole = run-whole (storing ∷ back) (t .ready) (t .whole)
 
   pub there-sized : Sized (there .processor)
   there-sized = run-sized (storing ∷ back) (t .ready) (t .sized)
@@ -62,8 +60,8 @@ module _ (t : Trip) where
   abbrev pub end : World
   end = step reading there
 
-  pub end-whole : length (end .memory) ≡ memoryBytes
-  end-whole = run-long (reading ∷ []) there memoryBytes there-whole
+  pub end-whole : Whole end
+  end-whole = run-whole (reading ∷ []) there there-whole
 
   pub trip-replies :
       (gets : List Operation) (got : List Reply) → replyTo reading there ≡ reply 0 0 → replies gets end ≡ got →

@@ -2,7 +2,7 @@
 -- property that each part of an access keeps is kept by every access.
 -- Assumes nothing.
 use Prim.Native.Nat.{ℕ}
-use mathlib.Core.Path.{_≡_, refl}
+use mathlib.Core.Path.{_≡_, refl, sym, ap, _∙_}
 use mathlib.Core.Bool.{Bool, true, false, _&&_}
 use mathlib.Core.List.{List, [], _∷_}
 use mathlib.Core.Logic.{_≢_}
@@ -12,10 +12,9 @@ use lib.ListN.{length}
 use borrow.Author.Tests.{not-false}
 use Rattle.basics.proofs.Choice.{pick-known, pick-either}
 use Rattle.basics.specs.Bits.{bits, isSet}
-use Rattle.address.specs.Boards.{boardDistricts, memoryBytes}
+use Rattle.address.specs.Boards.{bytesOf}
 use Rattle.address.specs.Triples.{legal}
-use Rattle.address.proofs.Places.{legal-blocks}
-use Rattle.address.proofs.Positions.{legal-attributes}
+use Rattle.address.proofs.Fits.{byte-illegal, code-illegal, narrow-illegal}
 use Rattle.address.specs.declared.triple.Triple.{Triple}
 use Rattle.shown.specs.Lengths.{romBytes, pictureBytes}
 use Rattle.shown.specs.Modes.{columnBytes}
@@ -31,17 +30,14 @@ use Rattle.command.specs.Commands.{commandOf}
 use Rattle.processor.specs.States.{Chip, chip, registerOf, registerRead, withRegister, withLx, indirectWritten, shownOf}
 use Rattle.processor.specs.Pointers.{pointerOf, incremented, incrementedIf, advanced, advancedIf}
 use Rattle.processor.specs.Bytes.{stored, oct, codeRead, codeStored, krf, narrowRead, narrowStored, krl}
-use Rattle.processor.specs.Access.{Outcome, outcome, isUnlisted, isAstray, effect, indirect, ran, executed, checked, written, readOut, phased, turned}
+use Rattle.processor.specs.Access.{Outcome, outcome, isUnlisted, isAstray, isUnfitted, effect, indirect, ran, executed, isWhole, checked, written, readOut, phased, turned}
 use Rattle.processor.specs.Draws.{DrawOutcome, drawOutcome, drawnPage, drawn}
 use Rattle.kept.specs.Orders.{firstOf, drawOrder}
 use Rattle.kept.specs.Quiet.{isStore}
 use Rattle.kept.specs.Rules.{isShown}
 use Rattle.kept.specs.Runs.{Operation, World, step, run}
 
--- the tests of an access before its command: the memory's length, and the address's high bits
-abbrev pub isWhole : Chip → Bool
-isWhole k = eqb (length (k .memory)) memoryBytes
-
+-- the test of an access's address: its high bits. (That of the memory's length is isWhole.)
 abbrev pub isChosen : ℕ → Bool
 isChosen address = eqb (bits 4 4 address) 2
 
@@ -51,36 +47,43 @@ commandIn p = commandOf (registerOf p 0)
 
 -- P at each end of an access to k that gives the value v and has left p of the state before its command, with what is known there
 pub record Ends (address v : ℕ) (k : Chip) (p : Processor) (P : Outcome → Type 0) : Type 0 where
-  pub wrong-memory : isWhole k ≡ false → P (outcome k answer.WrongMemory)
-  pub wrong-address : isWhole k ≡ true → isChosen address ≡ false → P (outcome k answer.WrongAddress)
+  pub wrong-memory : isWhole (chip p (k .memory)) ≡ false → P (outcome k answer.WrongMemory)
+  pub wrong-address : isWhole (chip p (k .memory)) ≡ true → isChosen address ≡ false → P (outcome k answer.WrongAddress)
   pub not-executed :
-      isWhole k ≡ true → isChosen address ≡ true → isSet 3 address ≡ false → P (outcome (chip p (k .memory)) (answer.Accepted v))
+      isWhole (chip p (k .memory)) ≡ true → isChosen address ≡ true → isSet 3 address ≡ false → P (outcome (chip p (k .memory)) (answer.Accepted v))
   pub not-listed :
-      isWhole k ≡ true → isChosen address ≡ true → isSet 3 address ≡ true → isUnlisted (commandIn p) ≡ true →
+      isWhole (chip p (k .memory)) ≡ true → isChosen address ≡ true → isSet 3 address ≡ true → isUnlisted (commandIn p) ≡ true →
       P (outcome (chip p (k .memory)) (answer.NotListed v))
   pub bad-pointer :
-      isWhole k ≡ true → isChosen address ≡ true → isSet 3 address ≡ true → isUnlisted (commandIn p) ≡ false →
+      isWhole (chip p (k .memory)) ≡ true → isChosen address ≡ true → isSet 3 address ≡ true → isUnlisted (commandIn p) ≡ false →
       isAstray (commandIn p) p ≡ true → P (outcome (chip p (k .memory)) (answer.BadPointer v))
+  pub not-fitted :
+      isWhole (chip p (k .memory)) ≡ true → isChosen address ≡ true → isSet 3 address ≡ true → isUnlisted (commandIn p) ≡ false →
+      isAstray (commandIn p) p ≡ false → isUnfitted (commandIn p) p ≡ true → P (outcome (chip p (k .memory)) (answer.NotFitted v))
   pub accepted :
-      isWhole k ≡ true → isChosen address ≡ true → isSet 3 address ≡ true → isUnlisted (commandIn p) ≡ false →
-      isAstray (commandIn p) p ≡ false → P (outcome (effect (commandIn p) (chip p (k .memory))) (answer.Accepted v))
+      isWhole (chip p (k .memory)) ≡ true → isChosen address ≡ true → isSet 3 address ≡ true → isUnlisted (commandIn p) ≡ false →
+      isAstray (commandIn p) p ≡ false → isUnfitted (commandIn p) p ≡ false → P (outcome (effect (commandIn p) (chip p (k .memory))) (answer.Accepted v))
 
 access-known :
-    (P : Outcome → Type 0) (address v : ℕ) (k : Chip) (p : Processor) → Ends address v k p P →
+    (P : Outcome → Type 0) (address v : ℕ) (k : Chip) (p : Processor) → p .blocks ≡ k .processor .blocks → Ends address v k p P →
     P (checked address k (executed address v (chip p (k .memory))))
 unfolding checked executed ran
-access-known P address v k p ends =
+access-known P address v k p same ends =
+    let whole = ap (λ (n : ℕ). eqb (length (k .memory)) (bytesOf n)) same in
     pick-known P (isWhole k) _ _
-    (λ m.
+    (λ q.
+    let m = whole ∙ q in
     pick-known P (isChosen address) _ _
     (λ a.
     pick-known P (isSet 3 address) _ _
     (λ x.
     pick-known P (isUnlisted (commandIn p)) _ _ (ends .not-listed m a x)
-    (λ u. pick-known P (isAstray (commandIn p) p) _ _ (ends .bad-pointer m a x u) (ends .accepted m a x u)))
+    (λ u.
+    pick-known P (isAstray (commandIn p) p) _ _ (ends .bad-pointer m a x u)
+    (λ s. pick-known P (isUnfitted (commandIn p) p) _ _ (ends .not-fitted m a x u s) (ends .accepted m a x u s))))
     (ends .not-executed m a))
     (ends .wrong-address m))
-    (ends .wrong-memory)
+    (λ q. ends .wrong-memory (whole ∙ q))
 
 -- a write: its register is written first
 abbrev pub afterWrite : ℕ → ℕ → Chip → Processor
@@ -88,14 +91,14 @@ afterWrite address v k = withRegister (k .processor) (bits 0 3 address) v
 
 pub write-known : (P : Outcome → Type 0) (address v : ℕ) (k : Chip) → Ends address 0 k (afterWrite address v k) P → P (written address v k)
 unfolding written
-write-known P address v k ends = access-known P address 0 k (afterWrite address v k) ends
+write-known P address v k ends = access-known P address 0 k (afterWrite address v k) refl ends
 
 -- a read changes no register by itself
 pub read-known :
     (P : Outcome → Type 0) (address : ℕ) (k : Chip) → Ends address (registerRead (k .processor) (bits 0 3 address)) k (k .processor) P →
     P (readOut address k)
 unfolding readOut
-read-known P address k ends = access-known P address (registerRead (k .processor) (bits 0 3 address)) k (k .processor) ends
+read-known P address k ends = access-known P address (registerRead (k .processor) (bits 0 3 address)) k (k .processor) refl ends
 
 -- the ends of a phase change
 pub turn-known :
@@ -114,7 +117,7 @@ pub draw-known :
     (firstOf (drawOrder p m rom picture) ≡ 0 → isShown p ≡ true → P (drawnPage p m rom picture)) → P (drawn p m rom picture)
 unfolding drawn canDraw
 draw-known P p m rom picture refused accepted =
-    pick-known P (eqb (length m) memoryBytes) _ _
+    pick-known P (eqb (length m) (bytesOf (p .blocks))) _ _
     (λ e1.
     pick-known P (eqb (length rom) romBytes) _ _
     (λ e5.
@@ -173,22 +176,20 @@ module _ (barred : Command → Bool) (K : Chip → Type 0) (by : KeptBy barred K
       asked-keeps increments false _ (by .register _ 3 _ (by .register _ 2 _ (by .register _ 1 _ (by .lx k false false h))))
   effect-keeps (Krf false increments) n k g h =
       let t = pointerOf false (k .processor) in
-      let g0 = legal-blocks boardDistricts t 0 (not-false (legal t) (g refl)) in
-      let g1 = legal-blocks boardDistricts t 1 (not-false (legal t) (g refl)) in
-      let g2 = legal-blocks boardDistricts t 2 (not-false (legal t) (g refl)) in
+      let l = not-false (legal t) (sym (code-illegal (k .processor .blocks) t) ∙ g refl) in
       let s = by .store (Krf false increments) refl n in
-      asked-keeps increments false _ (s _ g2 _ _ (s _ g1 _ _ (s _ g0 _ _ (by .lx k false false h))))
+      asked-keeps increments false _ (s _ l _ _ (s _ l _ _ (s _ l _ _ (by .lx k false false h))))
   effect-keeps (Oct true auxiliary increments) n k g h = asked-keeps increments auxiliary _ (by .register _ 1 _ (by .lx k false false h))
   effect-keeps (Oct false auxiliary increments) n k g h =
       let t = pointerOf auxiliary (k .processor) in
-      asked-keeps increments auxiliary _
-      (by .store (Oct false auxiliary increments) refl n t (not-false (legal t) (g refl)) _ _ (by .lx k false false h))
+      let l = not-false (legal t) (sym (byte-illegal (k .processor .blocks) t) ∙ g refl) in
+      asked-keeps increments auxiliary _ (by .store (Oct false auxiliary increments) refl n t l _ _ (by .lx k false false h))
   effect-keeps (Krl true increments) n k g h = advance-keeps increments _ (by .register _ 3 _ (by .register _ 1 _ (by .lx k false false h)))
   effect-keeps (Krl false increments) n k g h =
       let t = pointerOf false (k .processor) in
-      let l = not-false (legal t) (g refl) in
+      let l = not-false (legal t) (sym (narrow-illegal (k .processor .blocks) t) ∙ g refl) in
       let s = by .store (Krl false increments) refl n in
-      advance-keeps increments _ (s _ (legal-attributes boardDistricts t l) _ _ (s t l _ _ (by .lx k false false h)))
+      advance-keeps increments _ (s _ l _ _ (s t l _ _ (by .lx k false false h)))
   effect-keeps NotListed n k g h = h
 
   -- an accepted access alone runs its command
@@ -202,7 +203,8 @@ module _ (barred : Command → Bool) (K : Chip → Type 0) (by : KeptBy barred K
         not-executed = λ m a x. j;
         not-listed = λ m a x u. j;
         bad-pointer = λ m a x u s. j;
-        accepted = λ m a x u s. effect-keeps (commandIn p) (n x) (chip p (k .memory)) (λ z. s) j;
+        not-fitted = λ m a x u s f. j;
+        accepted = λ m a x u s f. effect-keeps (commandIn p) (n x) (chip p (k .memory)) (λ z. s) j;
       }
 
   pub write-keeps :

@@ -10,23 +10,27 @@ use mathlib.Core.List.{List, [], _∷_, _++_}
 use mathlib.Core.Logic.{_≢_}
 use lib.ListN.{length}
 use Rattle.basics.specs.Choice.{pick, oneIf}
-use Rattle.address.specs.Boards.{memoryBytes}
+use Rattle.address.specs.Addresses.{byteAddresses, codeAddresses, narrowAddresses, allFitted}
+use Rattle.address.specs.Boards.{isBoard, fullBoard, bytesOf}
 use Rattle.address.specs.Narrow.{isOdd, attributesAt, neighbourAt, nibbleFor, bothHalves}
 use Rattle.address.specs.Places.{byteAt, loaded}
 use Rattle.address.specs.Pointers.{mainPointer, auxiliaryPointer}
-use Rattle.address.specs.Triples.{legal}
 use Rattle.address.specs.declared.triple.Triple.{Triple}
+use Rattle.shown.specs.declared.Shown.{Shown}
 use Rattle.shown.specs.Lengths.{fortyBytes, pictureBytes}
 use Rattle.shown.specs.Modes.{isEighty}
 use Rattle.page.specs.Marks.{isMarked}
 use Rattle.picture.specs.Redraws.{fresh}
+use Rattle.reading.specs.Lists.{onList}
+use Rattle.command.specs.Answers.{powerNumberOf}
 use Rattle.command.specs.declared.Command.the-variants.{Krf, Oct, Krl}
 use Rattle.processor.specs.declared.draw.Drawn.{Drawn}
 use Rattle.processor.specs.declared.execute.Answered.{Answered}
 use Rattle.processor.specs.Access.{Outcome, outcomeOf}
 use Rattle.processor.specs.Draws.{DrawOutcome, drawOutcomeOf}
 use Rattle.processor.specs.Pointers.{pointerOf}
-use Rattle.processor.specs.States.{shownOf, registerOf}
+use Rattle.processor.specs.PowerUps.{poweredUpBoard}
+use Rattle.processor.specs.States.{shownOf, registerOf, poweredUp}
 use Rattle.kept.specs.Orders.{order, firstOf, returned, isLate}
 use Rattle.kept.specs.Premises.{Fair, FairRun}
 use Rattle.kept.specs.Quiet.{commandRun, Quiet}
@@ -40,7 +44,7 @@ use Rattle.kept.specs.Runs.{Lent, own, Operation, write, read, draw, Wor
 abbrev pub AnsweredInOrder : Type 0
 AnsweredInOrder = (o : Operation) (w : World) → let n = firstOf (order o w) in replyTo o w ≡ reply n (returned o w n)
 
--- after 3 or 4 the register access itself has happened, and nothing else; after the others nothing has changed: state (the marks are in it),
+-- after 3, 4 or 11 the register access itself has happened, and nothing else; after the others nothing has changed: state (the marks are in it),
 -- memory, picture
 abbrev pub RefusalLeaves : Type 0
 RefusalLeaves =
@@ -49,22 +53,35 @@ RefusalLeaves =
     × (done o w .memory ≡ lentOf (memoryLent o) (w .memory))
     × (done o w .picture ≡ lentOf (pictureLent o) (w .picture))
 
--- some operation, after some run from power-up that keeps the premises of demand 3
+-- the size is given at power-up and stays
+abbrev pub BoardStays : Type 0
+BoardStays = (os : List Operation) (w : World) → run os w .processor .blocks ≡ w .processor .blocks
+
+-- at power-up a size that is none of the three is refused with 12 and hands back the 16 block board
+abbrev pub BoardChosen : Type 0
+BoardChosen =
+    (blocks : ℕ) →
+    (powerNumberOf (poweredUpBoard blocks .answer) ≡ pick (isBoard blocks) 0 12)
+    × (poweredUpBoard blocks .processor ≡ poweredUp (pick (isBoard blocks) blocks fullBoard))
+
+-- some operation, after some run from power-up of a board that keeps the premises of demand 3
 pub record Reached (Happens : Operation → World → Type 0) : Type 0 where
+  pub blocks : ℕ
+  pub board : isBoard blocks ≡ true
   pub memory : List ℕ
   pub rom : List ℕ
   pub picture : List ℕ
   pub before : List Operation
   pub last : Operation
-  pub fair : FairRun (before ++ last ∷ []) (first memory rom picture)
-  pub happens : Happens last (run before (first memory rom picture))
+  pub fair : FairRun (before ++ last ∷ []) (first blocks memory rom picture)
+  pub happens : Happens last (run before (first blocks memory rom picture))
 
--- each number is given
+-- each number of an operation is given; 11 on a board with less memory
 abbrev pub Gives : ℕ → Type 0
 Gives n = Reached (λ o w. done o w .number ≡ n)
 
 abbrev pub EachNumberReached : Type 0
-EachNumberReached = Gives 0 × Gives 1 × Gives 2 × Gives 3 × Gives 4 × Gives 5 × Gives 6 × Gives 7 × Gives 8 × Gives 9
+EachNumberReached = Gives 0 × Gives 1 × Gives 2 × Gives 3 × Gives 4 × Gives 5 × Gives 6 × Gives 7 × Gives 8 × Gives 9 × Gives 11
 
 -- a draw is accepted, of all 25 rows, and of some and not all
 abbrev pub Redraws : (ℕ → Type 0) → Type 0
@@ -89,7 +106,7 @@ abbrev pub OneDraw : Type 0
 OneDraw = (r s : Drawn) (v w : List ℕ) (o : DrawOutcome) → drawOutcomeOf r v ≡ o → drawOutcomeOf s w ≡ o → (r ≡ s) × (v ≡ w)
 
 abbrev pub Demand1 : Type 0
-Demand1 = AnsweredInOrder × RefusalLeaves × EachNumberReached × DrawsReached × OneAccess × OneDraw
+Demand1 = AnsweredInOrder × RefusalLeaves × BoardStays × BoardChosen × EachNumberReached × DrawsReached × OneAccess × OneDraw
 
 -- 2. Registers, commands, addresses and each pixel are what the rules say: that is in the contracts, by the definitions of the other crates.
 -- Three code bytes written at a legal pointer, and read there before another store, are the same three.
@@ -118,14 +135,15 @@ krlCode reads increments = 0x50 + 8 * oneIf reads + oneIf increments
 abbrev pub codeReplies : ℕ → ℕ → ℕ → List Reply
 codeReplies c b a = reply 0 c ∷ reply 0 b ∷ reply 0 a ∷ []
 
--- after any run, C, B and A are written to R1, R2 and R3 and stored by KRF at a legal pointer; then come operations that store nothing, and
+-- after any run on a board of any number of blocks, C, B and A are written to R1, R2 and R3 and stored by KRF at a pointer that is legal with
+-- all three blocks fitted; then come operations that store nothing, and
 -- the pointer is set back; KRF reads: R1, R2 and R3 are C, B and A
 abbrev pub CodeRoundTrip : Type 0
 CodeRoundTrip =
-    (m rom picture : List ℕ) (before between : List Operation) (r6 r7 c b a : ℕ) (i j : Bool) →
-    length m ≡ memoryBytes → legal (mainPointer r6 r7) ≡ true →
+    (blocks : ℕ) (m rom picture : List ℕ) (before between : List Operation) (r6 r7 c b a : ℕ) (i j : Bool) →
+    length m ≡ bytesOf blocks → allFitted (codeAddresses blocks (mainPointer r6 r7)) ≡ true →
     let pointer = put 6 r6 ∷ put 7 r7 ∷ [] in
-    let stored = run (pointer ++ put 1 c ∷ put 2 b ∷ put 3 a ∷ execute (krfCode false i) ∷ []) (run before (first m rom picture)) in
+    let stored = run (pointer ++ put 1 c ∷ put 2 b ∷ put 3 a ∷ execute (krfCode false i) ∷ []) (run before (first blocks m rom picture)) in
     Quiet between stored →
     replies (pointer ++ execute (krfCode true j) ∷ get 1 ∷ get 2 ∷ get 3 ∷ []) (run between stored)
     ≡ reply 0 0 ∷ reply 0 0 ∷ reply 0 0 ∷ codeReplies c b a
@@ -133,10 +151,10 @@ CodeRoundTrip =
 -- one byte the same way, by OCT through either pointer
 abbrev pub ByteRoundTrip : Type 0
 ByteRoundTrip =
-    (m rom picture : List ℕ) (before between : List Operation) (r4 r5 r6 r7 v : ℕ) (auxiliary i j : Bool) →
-    length m ≡ memoryBytes → legal (pick auxiliary (auxiliaryPointer r4 r5 r6) (mainPointer r6 r7)) ≡ true →
+    (blocks : ℕ) (m rom picture : List ℕ) (before between : List Operation) (r4 r5 r6 r7 v : ℕ) (auxiliary i j : Bool) →
+    length m ≡ bytesOf blocks → allFitted (byteAddresses blocks (pick auxiliary (auxiliaryPointer r4 r5 r6) (mainPointer r6 r7))) ≡ true →
     let pointers = put 4 r4 ∷ put 5 r5 ∷ put 6 r6 ∷ put 7 r7 ∷ [] in
-    let stored = run (pointers ++ put 1 v ∷ execute (octCode false auxiliary i) ∷ []) (run before (first m rom picture)) in
+    let stored = run (pointers ++ put 1 v ∷ execute (octCode false auxiliary i) ∷ []) (run before (first blocks m rom picture)) in
     Quiet between stored →
     replies (pointers ++ execute (octCode true auxiliary j) ∷ get 1 ∷ []) (run between stored)
     ≡ reply 0 0 ∷ reply 0 0 ∷ reply 0 0 ∷ reply 0 0 ∷ reply 0 0 ∷ reply 0 v ∷ []
@@ -148,10 +166,10 @@ narrowReplies t c a = reply 0 c ∷ reply 0 (bothHalves (nibbleFor (isOdd t) a))
 -- a 12-bit code the same way, by KRL
 abbrev pub NarrowRoundTrip : Type 0
 NarrowRoundTrip =
-    (m rom picture : List ℕ) (before between : List Operation) (r6 r7 c a : ℕ) (i j : Bool) →
-    length m ≡ memoryBytes → legal (mainPointer r6 r7) ≡ true →
+    (blocks : ℕ) (m rom picture : List ℕ) (before between : List Operation) (r6 r7 c a : ℕ) (i j : Bool) →
+    length m ≡ bytesOf blocks → allFitted (narrowAddresses blocks (mainPointer r6 r7)) ≡ true →
     let pointer = put 6 r6 ∷ put 7 r7 ∷ [] in
-    let stored = run (pointer ++ put 1 c ∷ put 3 a ∷ execute (krlCode false i) ∷ []) (run before (first m rom picture)) in
+    let stored = run (pointer ++ put 1 c ∷ put 3 a ∷ execute (krlCode false i) ∷ []) (run before (first blocks m rom picture)) in
     Quiet between stored →
     replies (pointer ++ execute (krlCode true j) ∷ get 1 ∷ get 3 ∷ []) (run between stored)
     ≡ reply 0 0 ∷ reply 0 0 ∷ reply 0 0 ∷ narrowReplies (mainPointer r6 r7) c a
@@ -160,8 +178,8 @@ NarrowRoundTrip =
 -- with the same X, Y and Z
 abbrev pub CodeKept : Type 0
 CodeKept =
-    (m rom picture : List ℕ) (before between : List Operation) (o q : Operation) (i j : Bool) →
-    let w = run before (first m rom picture) in
+    (blocks : ℕ) (m rom picture : List ℕ) (before between : List Operation) (o q : Operation) (i j : Bool) →
+    let w = run before (first blocks m rom picture) in
     let u = run between (step o w) in
     memoryLent o ≡ own → commandRun o w ≡ Krf false i → Quiet between (step o w) →
     memoryLent q ≡ own → commandRun q u ≡ Krf true j → pointerOf false (registered q u) ≡ pointerOf false (registered o w) →
@@ -169,8 +187,8 @@ CodeKept =
 
 abbrev pub ByteKept : Type 0
 ByteKept =
-    (m rom picture : List ℕ) (before between : List Operation) (o q : Operation) (x y i j : Bool) →
-    let w = run before (first m rom picture) in
+    (blocks : ℕ) (m rom picture : List ℕ) (before between : List Operation) (o q : Operation) (x y i j : Bool) →
+    let w = run before (first blocks m rom picture) in
     let u = run between (step o w) in
     memoryLent o ≡ own → commandRun o w ≡ Oct false x i → Quiet between (step o w) →
     memoryLent q ≡ own → commandRun q u ≡ Oct true y j → pointerOf y (registered q u) ≡ pointerOf x (registered o w) →
@@ -178,8 +196,8 @@ ByteKept =
 
 abbrev pub NarrowKept : Type 0
 NarrowKept =
-    (m rom picture : List ℕ) (before between : List Operation) (o q : Operation) (i j : Bool) →
-    let w = run before (first m rom picture) in
+    (blocks : ℕ) (m rom picture : List ℕ) (before between : List Operation) (o q : Operation) (i j : Bool) →
+    let w = run before (first blocks m rom picture) in
     let u = run between (step o w) in
     let t = pointerOf false (registered o w) in
     memoryLent o ≡ own → commandRun o w ≡ Krl false i → Quiet between (step o w) →
@@ -212,9 +230,9 @@ Demand2 = CodeRoundTrip × ByteRoundTrip × NarrowRoundTrip × CodeKept × ByteK
 -- (the premises are FairRun and Fair)
 abbrev pub DrawFresh : Type 0
 DrawFresh =
-    (m rom picture : List ℕ) (os : List Operation) (x y z : Lent) →
-    let w = run os (first m rom picture) in
-    FairRun os (first m rom picture) → Fair (draw x y z) w → done (draw x y z) w .number ≡ 0 →
+    (blocks : ℕ) (m rom picture : List ℕ) (os : List Operation) (x y z : Lent) →
+    let w = run os (first blocks m rom picture) in
+    FairRun os (first blocks m rom picture) → Fair (draw x y z) w → done (draw x y z) w .number ≡ 0 →
     let after = step (draw x y z) w in after .picture ≡ fresh (after .memory) (after .rom) (shownOf (after .processor))
 
 -- row r is marked after an operation exactly when it was before and no accepted draw has cleared it, or the rules mark it
@@ -223,6 +241,10 @@ MarksExact =
     (o : Operation) (w : World) (r : ℕ) → r < 25 →
     isMarked (step o w .processor .marks) r ≡ ((isMarked (w .processor .marks) r && not (clears o w)) || marksRow o w r)
 
+-- a byte that is not fitted is on no reading list
+abbrev pub ListsFitted : Type 0
+ListsFitted = (shown : Shown) (m : List ℕ) (p : ℕ) → bytesOf (shown .blocks) ≤ p → (r : ℕ) → onList shown m p r ≡ false
+
 -- (the number of rows that a draw reports is the number marked: that is in AnsweredInOrder)
 abbrev pub Demand3 : Type 0
-Demand3 = DrawFresh × MarksExact × AnsweredInOrder
+Demand3 = DrawFresh × MarksExact × ListsFitted × AnsweredInOrder

@@ -7,7 +7,7 @@ use lib.Dec.{eqb, leb}
 use lib.ListN.{length}
 use Rattle.basics.specs.Bits.{bits, isSet}
 use Rattle.basics.specs.Choice.{pick}
-use Rattle.address.specs.Boards.{memoryBytes}
+use Rattle.address.specs.Boards.{bytesOf}
 use Rattle.shown.specs.Lengths.{romBytes, pictureBytes}
 use Rattle.shown.specs.Modes.{columnBytes}
 use Rattle.shown.specs.Refusals.{refused7, refused8}
@@ -15,7 +15,7 @@ use Rattle.processor.specs.declared.state.Processor.{Processor}
 use Rattle.command.specs.Commands.{commandOf}
 use Rattle.page.specs.Marks.{markedRows}
 use Rattle.processor.specs.States.{registerOf, registerRead, shownOf}
-use Rattle.processor.specs.Access.{isUnlisted, isAstray}
+use Rattle.processor.specs.Access.{isUnlisted, isAstray, isUnfitted}
 use Rattle.kept.specs.Runs.{Operation, write, read, turn, draw, World, lentOf, registered}
 
 -- a condition and the number that it gives
@@ -31,19 +31,20 @@ abbrev pub firstOf : List Refusal → ℕ
 firstOf [] = 0
 firstOf (c ∷ cs) = pick (c .when) (c .number) (firstOf cs)
 
--- Access is checked 1, 2, 3, 4. (p is the state after the register access itself.)
+-- Access is checked 1, 2, 3, 4, 11. (p is the state after the register access itself.)
 abbrev pub accessOrder : ℕ → Processor → List ℕ → List Refusal
 accessOrder address p m =
-    gives (not (eqb (length m) memoryBytes)) 1
+    gives (not (eqb (length m) (bytesOf (p .blocks)))) 1
     ∷ gives (not (eqb (bits 4 4 address) 2)) 2
     ∷ gives (isSet 3 address && isUnlisted (commandOf (registerOf p 0))) 3
     ∷ gives (isSet 3 address && isAstray (commandOf (registerOf p 0)) p) 4
+    ∷ gives (isSet 3 address && isUnfitted (commandOf (registerOf p 0)) p) 11
     ∷ []
 
 -- draw 1, 5, 7, 6, 8; 6 asks for the length that goes with the mode
 abbrev pub drawOrder : Processor → List ℕ → List ℕ → List ℕ → List Refusal
 drawOrder p m rom picture =
-    gives (not (eqb (length m) memoryBytes)) 1
+    gives (not (eqb (length m) (bytesOf (p .blocks)))) 1
     ∷ gives (not (eqb (length rom) romBytes)) 5
     ∷ gives (refused7 (shownOf p)) 7
     ∷ gives (not (eqb (length picture) (pictureBytes (columnBytes (shownOf p))))) 6
@@ -51,22 +52,22 @@ drawOrder p m rom picture =
     ∷ []
 
 -- phase 1, 9
-abbrev pub phaseOrder : ℕ → List ℕ → List Refusal
-phaseOrder n m = gives (not (eqb (length m) memoryBytes)) 1 ∷ gives (not (leb n 1)) 9 ∷ []
+abbrev pub phaseOrder : ℕ → Processor → List ℕ → List Refusal
+phaseOrder n p m = gives (not (eqb (length m) (bytesOf (p .blocks)))) 1 ∷ gives (not (leb n 1)) 9 ∷ []
 
 -- of each operation, with what it is lent
 abbrev pub order : Operation → World → List Refusal
 order (write x address v) w = accessOrder address (registered (write x address v) w) (lentOf x (w .memory))
 order (read x address) w = accessOrder address (w .processor) (lentOf x (w .memory))
-order (turn x n) w = phaseOrder n (lentOf x (w .memory))
+order (turn x n) w = phaseOrder n (w .processor) (lentOf x (w .memory))
 order (draw x y z) w = drawOrder (w .processor) (lentOf x (w .memory)) (lentOf y (w .rom)) (lentOf z (w .picture))
 
--- 1 and 2 come before the register access, 3 and 4 after it
+-- 1 and 2 come before the register access, 3, 4 and 11 after it
 abbrev pub isEarly : ℕ → Bool
 isEarly n = eqb n 1 || eqb n 2
 
 abbrev pub isLate : ℕ → Bool
-isLate n = eqb n 3 || eqb n 4
+isLate n = eqb n 3 || (eqb n 4 || eqb n 11)
 
 -- what is returned with number n: a write or a phase change 0; a read the value from before, but 0 with 1 and 2; a draw the number of marked
 -- rows, refused 0

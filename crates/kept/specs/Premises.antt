@@ -7,7 +7,7 @@ use mathlib.Core.Bool.{true}
 use mathlib.Core.List.{List, [], _∷_}
 use mathlib.Core.Logic.{_≢_, _⊎_}
 use lib.ListN.{length}
-use Rattle.address.specs.Boards.{memoryBytes}
+use Rattle.address.specs.Boards.{bytesOf}
 use Rattle.shown.specs.Lengths.{romBytes, pictureBytes}
 use Rattle.shown.specs.Modes.{columnBytes}
 use Rattle.page.specs.Marks.{isMarked}
@@ -25,11 +25,14 @@ EveryRowMarked w = (r : ℕ) → r < 25 → isMarked (w .processor .marks) r ≡
 abbrev pub FairPicture : Lent → World → Type 0
 FairPicture z w = OwnOrWrong (pictureBytes (columnBytes (shownOf (w .processor)))) z ⊎ EveryRowMarked w
 
+abbrev pub FairMemory : Lent → World → Type 0
+FairMemory x w = OwnOrWrong (bytesOf (w .processor .blocks)) x
+
 abbrev pub Fair : Operation → World → Type 0
-Fair (write x address v) w = OwnOrWrong memoryBytes x
-Fair (read x address) w = OwnOrWrong memoryBytes x
-Fair (turn x n) w = OwnOrWrong memoryBytes x
-Fair (draw x y z) w = OwnOrWrong memoryBytes x × OwnOrWrong romBytes y × FairPicture z w
+Fair (write x address v) w = FairMemory x w
+Fair (read x address) w = FairMemory x w
+Fair (turn x n) w = FairMemory x w
+Fair (draw x y z) w = FairMemory x w × OwnOrWrong romBytes y × FairPicture z w
 
 -- each operation of a run
 abbrev pub FairRun : List Operation → World → Type 0

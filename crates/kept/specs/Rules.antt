@@ -3,10 +3,9 @@
 use Prim.Native.Nat.{ℕ}
 use mathlib.Core.Bool.{Bool, true, false, not, _&&_, _||_}
 use lib.Dec.{eqb, leb}
-use lib.ListN.{length, getD}
+use lib.ListN.{getD}
 use Rattle.basics.specs.Bits.{bits, isSet}
-use Rattle.address.specs.Triples.{legal}
-use Rattle.address.specs.Boards.{memoryBytes}
+use Rattle.address.specs.Addresses.{byteAddresses, codeAddresses, narrowAddresses, allFitted}
 use Rattle.address.specs.Narrow.{isOdd, attributesAt, nibbleInto}
 use Rattle.address.specs.Places.{placeAt, blockAt, loaded}
 use Rattle.address.specs.declared.triple.Triple.{Triple}
@@ -21,6 +20,7 @@ use Rattle.command.specs.Commands.{commandOf}
 use Rattle.processor.specs.States.{Chip, chip, registerOf, shownOf, cleared}
 use Rattle.processor.specs.Pointers.{pointerOf}
 use Rattle.processor.specs.Bytes.{stored}
+use Rattle.processor.specs.Access.{isWhole}
 use Rattle.kept.specs.Runs.{Operation, write, read, turn, draw, World, lentOf, chipLent, registered, done}
 
 -- a draw would get neither 7 nor 8
@@ -57,32 +57,34 @@ narrowRule t k r =
     storeRule t (registerOf p 1) k r
     || storeRule (attributesAt t) (nibbleInto (isOdd t) (loaded (attributesAt t) (k .memory)) (registerOf p 3)) k1 r
 
--- a command: those that store mark by their stores, where their pointer is legal
+-- a command: those that store mark by their stores, where their pointer is legal and all its bytes are fitted
 abbrev pub commandRule : Command → Chip → ℕ → Bool
 commandRule Nop k r = false
 commandRule (Ind n true) k r = false
 commandRule (Ind n false) k r = indirectRule n (k .processor)
 commandRule (Krf true increments) k r = false
 commandRule (Krf false increments) k r =
-    legal (pointerOf false (k .processor)) && codeRule (pointerOf false (k .processor)) (chip (cleared (k .processor)) (k .memory)) r
+    allFitted (codeAddresses (k .processor .blocks) (pointerOf false (k .processor)))
+    && codeRule (pointerOf false (k .processor)) (chip (cleared (k .processor)) (k .memory)) r
 commandRule (Oct true auxiliary increments) k r = false
 commandRule (Oct false auxiliary increments) k r =
-    legal (pointerOf auxiliary (k .processor))
+    allFitted (byteAddresses (k .processor .blocks) (pointerOf auxiliary (k .processor)))
     && storeRule (pointerOf auxiliary (k .processor)) (registerOf (k .processor) 1) (chip (cleared (k .processor)) (k .memory)) r
 commandRule (Krl true increments) k r = false
 commandRule (Krl false increments) k r =
-    legal (pointerOf false (k .processor)) && narrowRule (pointerOf false (k .processor)) (chip (cleared (k .processor)) (k .memory)) r
+    allFitted (narrowAddresses (k .processor .blocks) (pointerOf false (k .processor)))
+    && narrowRule (pointerOf false (k .processor)) (chip (cleared (k .processor)) (k .memory)) r
 commandRule NotListed k r = false
 
 -- an access that is not refused with 1 or 2, and executes; k is what the register access left
 abbrev pub accessRule : ℕ → Chip → ℕ → Bool
 accessRule address k r =
-    eqb (length (k .memory)) memoryBytes && (eqb (bits 4 4 address) 2 && (isSet 3 address && commandRule (commandOf (registerOf (k .processor) 0)) k r))
+    isWhole k && (eqb (bits 4 4 address) 2 && (isSet 3 address && commandRule (commandOf (registerOf (k .processor) 0)) k r))
 
 abbrev pub marksRow : Operation → World → ℕ → Bool
 marksRow (write x address v) w r = accessRule address (chip (registered (write x address v) w) (lentOf x (w .memory))) r
 marksRow (read x address) w r = accessRule address (chipLent x w) r
-marksRow (turn x n) w r = eqb (length (lentOf x (w .memory))) memoryBytes && (leb n 1 && phaseRule n (chipLent x w) r)
+marksRow (turn x n) w r = isWhole (chipLent x w) && (leb n 1 && phaseRule n (chipLent x w) r)
 marksRow (draw x y z) w r = false
 
 -- an accepted draw clears the marks

@@ -7,7 +7,7 @@ use Rattle.basics.specs.Bits.{bits}
 use Rattle.basics.specs.Choice.{pick}
 use Rattle.command.specs.Answers.{numberOf, valueOf, drawNumberOf, rowsOf}
 use Rattle.processor.specs.declared.state.Processor.{Processor}
-use Rattle.processor.specs.States.{Chip, chip, powerUp, withRegister}
+use Rattle.processor.specs.States.{Chip, chip, poweredUp, withRegister}
 use Rattle.processor.specs.Access.{Outcome, written, readOut, turned}
 use Rattle.processor.specs.Draws.{DrawOutcome, drawn}
 
@@ -31,9 +31,9 @@ pub record World : Type 0 where
   pub rom : List ℕ
   pub picture : List ℕ
 
--- power-up, with any memory, ROM and picture
-abbrev pub first : List ℕ → List ℕ → List ℕ → World
-first m rom picture = record { processor = powerUp; memory = m; rom = rom; picture = picture }
+-- power-up of a board of any number of blocks, with any memory, ROM and picture
+abbrev pub first : ℕ → List ℕ → List ℕ → List ℕ → World
+first blocks m rom picture = record { processor = poweredUp blocks; memory = m; rom = rom; picture = picture }
 
 -- the bytes that are lent, where l are those that are kept
 abbrev pub lentOf : Lent → List ℕ → List ℕ

@@ -4,13 +4,14 @@ use Prim.Native.Nat.{ℕ, zero, suc, _<_}
 use mathlib.Core.Path.{_≡_, refl, sym, ap, ap₂, _∙_}
 use mathlib.Core.Bool.{Bool, true, false, not, _&&_, _||_, false≢true, and-false}
 use mathlib.Core.List.{List}
+use mathlib.Core.Logic.{_⊎_, inl, inr}
 use native.Mathlib.Omega.{arith}
 use lib.Dec.{eqb}
 use lib.ListN.{getD}
 use borrow.Author.Tests.{eq-eqb, ne-eqb, eqb-true}
 use Rattle.basics.specs.Below.{anyBelow}
 use Rattle.basics.proofs.Choice.{and-right}
-use Rattle.keys.specs.HowKeys.{isOne, passes, someBlock}
+use Rattle.keys.specs.HowKeys.{isOne, passes, someBlock, AllFitted}
 use Rattle.keys.proofs.Tests.{together, or-swap}
 
 module _ (blocks : List ℕ) where
@@ -22,6 +23,15 @@ module _ (blocks : List ℕ) where
   pub some-same : (f g : ℕ → Bool) → ((z : ℕ) → f z ≡ g z) → someBlock f blocks ≡ someBlock g blocks
   unfolding someBlock
   some-same f g h = three f (passes g) (λ z. ap (λ (t : Bool). not (eqb z 255) && t) (h z))
+
+  -- that have one answer for each block of the board
+  pub some-fitted : (board : ℕ) → AllFitted board blocks → (f g : ℕ → Bool) → ((z : ℕ) → z < board → f z ≡ g z) → someBlock f blocks ≡ someBlock g blocks
+  unfolding someBlock
+  some-fitted board fitted f g h = ap₂ _||_ (one (fitted .0)) (ap₂ _||_ (one (fitted .1)) (one (fitted .2)))
+    where
+      one : {z : ℕ} → (z ≡ 255) ⊎ (z < board) → passes f z ≡ passes g z
+      one {z} (inl e) = rw (eq-eqb z 255 e)
+      one {z} (inr l) = ap (λ (t : Bool). not (eqb z 255) && t) (h z l)
 
   -- a question that only a block's number answers
   pub some-each : (f : ℕ → Bool) → f 255 ≡ false → someBlock f blocks ≡ (f (getD blocks 0 0) || (f (getD blocks 1 0) || f (getD blocks 2 0)))

@@ -16,10 +16,12 @@ use Rattle.basics.specs.Below.{anyBelow}
 use Rattle.basics.proofs.Choice.{bool-cases, lt-or-le, and-left, and-right, and-both}
 use Rattle.basics.proofs.Computed.{agree-test}
 use Rattle.basics.proofs.Below.{any-hit, any-at}
-use Rattle.address.specs.Triples.{legalY, onPage}
-use Rattle.address.specs.Places.{placeOf}
-use Rattle.address.specs.Slices.{sliceX, sliceY, slicePlaceOf}
-use Rattle.address.proofs.Laws.{y-facts, facts-y, page-column, page-row, facts-page}
+use Rattle.address.specs.Addresses.{isAt}
+use Rattle.address.specs.Triples.{onPage, legal}
+use Rattle.address.specs.Places.{placeOf, placeAt}
+use Rattle.address.specs.Slices.{sliceX, sliceY, sliceAt, sliceAddress}
+use Rattle.address.proofs.Addresses.{address-illegal, listed}
+use Rattle.address.proofs.Laws.{page-column, page-row}
 use Rattle.address.proofs.Places.{place-injective}
 use Rattle.shown.specs.declared.Shown.{Shown}
 use Rattle.cell.specs.Cells.{setOf, bichromeOf, quadrichromeOf, isQuadrichrome, cellOf}
@@ -28,46 +30,45 @@ use Rattle.cell.proofs.Codes.{set-UserG0, set-UserG1, cell-bichrome, cell-quadr
 use Rattle.sources.specs.Sources.{setSource, cellSource, characterOf}
 use Rattle.sources.specs.declared.source.Source.{Source}
 use Rattle.sources.specs.declared.source.Source.the-variants.{Rom, Block}
-use Rattle.reading.specs.Lists.{isAt, sourceHolds, cellHolds}
+use Rattle.reading.specs.Lists.{sourceHolds, cellHolds}
 use Rattle.sources.proofs.SliceSources.{Fitting, source-fitting}
 use Rattle.keys.specs.declared.key.Keys.{Keys}
-use Rattle.keys.specs.HowKeys.{keyIf, isOne, someBlock, quadKey, keysOf, keysHigh, fromBlock, keyed}
+use Rattle.keys.specs.HowKeys.{keyIf, isOne, someBlock, AllFitted, quadKey, keysOf, keysHigh, fromBlock, keyed}
 use Rattle.keys.proofs.Tests.{together}
-use Rattle.keys.proofs.Blocks.{some-none, some-same, some-and, some-one}
+use Rattle.keys.proofs.Blocks.{some-none, some-fitted, some-and, some-one}
 
--- one character has the place among its slices
-module _ (x y z : ℕ) (page : onPage x y ≡ true) where
-  -- where the character's Y is legal
-  held : (c n b : ℕ) → legalY (sliceY c) ≡ true → isAt (placeOf x y z) (slicePlaceOf c n b) ≡ eqb (placeOf x y z) (placeOf (sliceX c n) (sliceY c) b)
-  unfolding slicePlaceOf
-  held c n b e = rw e
+-- one character has the place among its slices, on a board of so many blocks that has the place's
+module _ (board x y z : ℕ) (page : onPage x y ≡ true) (fits : z < board) where
+  -- where the slice is legal
+  held : (c n b : ℕ) → legal (sliceAt c n b) ≡ true → isAt (placeOf x y z) (sliceAddress board c n b) ≡ eqb (placeOf x y z) (placeAt (sliceAt c n b))
+  unfolding sliceAddress
+  held c n b e = listed board (sliceAt c n b) x y z page fits e
 
-  unheld : (c n b : ℕ) → legalY (sliceY c) ≡ false → isAt (placeOf x y z) (slicePlaceOf c n b) ≡ false
-  unfolding slicePlaceOf
-  unheld c n b e = rw e
+  unheld : (c n b : ℕ) → legal (sliceAt c n b) ≡ false → isAt (placeOf x y z) (sliceAddress board c n b) ≡ false
+  unfolding sliceAddress
+  unheld c n b e = ap (isAt (placeOf x y z)) (address-illegal board (sliceAt c n b) e)
 
-  only : (c n b : ℕ) → n < 10 → isAt (placeOf x y z) (slicePlaceOf c n b) ≡ true → (eqb (c % 128) (y * 4 + x % 4) && eqb b z) ≡ true
-  only c n b l e =
+  only : (c n b : ℕ) → isAt (placeOf x y z) (sliceAddress board c n b) ≡ true → (eqb (c % 128) (y * 4 + x % 4) && eqb b z) ≡ true
+  only c n b e =
       ⊎-elim
-      (λ legal.
-      let same = place-injective x y z (sliceX c n) (sliceY c) b page (facts-page (sliceX c n) (sliceY c) (omega arith) (y-facts (sliceY c) legal)) (eqb-true _ _ (sym (held c n b legal) ∙ e)) in
+      (λ there.
+      let same = place-injective x y z (sliceX c n) (sliceY c) b page there (eqb-true _ _ (sym (held c n b there) ∙ e)) in
       and-both _ _ (eq-eqb (c % 128) (y * 4 + x % 4) (omega arith)) (eq-eqb b z (omega arith)))
       (λ none. absurd (false≢true (sym (unheld c n b none) ∙ e)))
-      (bool-cases (legalY (sliceY c)))
+      (bool-cases (legal (sliceAt c n b)))
 
   -- slice x / 4
-  there : (c b : ℕ) → c % 128 ≡ y * 4 + x % 4 → b ≡ z → isAt (placeOf x y z) (slicePlaceOf c (x / 4) b) ≡ true
+  there : (c b : ℕ) → c % 128 ≡ y * 4 + x % 4 → b ≡ z → isAt (placeOf x y z) (sliceAddress board c (x / 4) b) ≡ true
   there c b e f =
-      let row = page-row x y page in
-      let ey : sliceY c ≡ y = ⊎-elim (λ r. omega arith) (λ r. omega arith) row in
+      let ey : sliceY c ≡ y = ⊎-elim (λ r. omega arith) (λ r. omega arith) (page-row x y page) in
       let ex : sliceX c (x / 4) ≡ x = omega arith in
-      held c (x / 4) b (rw ey (facts-y y row))
+      held c (x / 4) b (ap₂ onPage ex ey ∙ page)
       ∙ eq-eqb _ _ (sym (ap (λ (a : ℕ). placeOf a (sliceY c) b) ex ∙ ap (λ (a : ℕ). placeOf x a b) ey ∙ ap (placeOf x y) f))
 
-  pub slices-hold : (c b : ℕ) → anyBelow (λ n. isAt (placeOf x y z) (slicePlaceOf c n b)) 10 ≡ (eqb (c % 128) (y * 4 + x % 4) && eqb b z)
+  pub slices-hold : (c b : ℕ) → anyBelow (λ n. isAt (placeOf x y z) (sliceAddress board c n b)) 10 ≡ (eqb (c % 128) (y * 4 + x % 4) && eqb b z)
   slices-hold c b =
       together _ _
-      (λ e. let w = any-at _ 10 e in only c (w .at) b (w .low) (w .passes))
+      (λ e. let w = any-at _ 10 e in only c (w .at) b (w .passes))
       (λ e.
       let column = page-column x y page in
       any-hit _ 10 (x / 4) (omega arith) (there c b (eqb-true _ _ (and-left _ _ e)) (eqb-true _ _ (and-right (eqb (c % 128) (y * 4 + x % 4)) _ e))))
@@ -227,23 +228,23 @@ some-source blocks (Rom set) l = some-none blocks
 some-source blocks (Block b) l = some-one blocks b (omega arith)
 
 module _ (shown : Shown) (x y : ℕ) (page : onPage x y ≡ true) where
-  source-holds : (z c : ℕ) (s : Source) → sourceHolds (placeOf x y z) c s ≡ (eqb (c % 128) (y * 4 + x % 4) && sourceIs z s)
-  source-holds z c (Rom set) = sym (and-false (eqb (c % 128) (y * 4 + x % 4)))
-  source-holds z c (Block b) = slices-hold x y z page c b
+  source-holds : (z c : ℕ) (s : Source) → z < shown .blocks → sourceHolds (shown .blocks) (placeOf x y z) c s ≡ (eqb (c % 128) (y * 4 + x % 4) && sourceIs z s)
+  source-holds z c (Rom set) l = sym (and-false (eqb (c % 128) (y * 4 + x % 4)))
+  source-holds z c (Block b) l = slices-hold (shown .blocks) x y z page l c b
 
   pub keyed-cell :
-      (blocks code : List ℕ) → getD code 1 0 < 256
+      (blocks code : List ℕ) → AllFitted (shown .blocks) blocks → getD code 1 0 < 256
       → keyed (keysOf shown x y blocks) code ≡ someBlock (λ z. cellHolds shown (placeOf x y z) code) blocks
   unfolding keyed keysOf fromBlock cellHolds
-  keyed-cell blocks code small =
+  keyed-cell blocks code fitted small =
       let c = getD code 0 0 in
       let b = getD code 1 0 in
       let a = getD code 2 0 in
       let s = cellSource shown (cellOf c b a) in
       ap (λ (t : Bool). eqb (c % 128) (y * 4 + x % 4) && t) (block-met shown blocks b small c a ∙ sym (some-source blocks s (source-fitting shown (cellOf c b a))))
       ∙ sym (some-and blocks (eqb (c % 128) (y * 4 + x % 4)) (λ z. sourceIs z s))
-      ∙ some-same blocks _ _
-      (λ z. sym (source-holds z c s) ∙ ap (λ (n : ℕ). sourceHolds (placeOf x y z) n s) (sym (character shown c b a)))
+      ∙ some-fitted blocks (shown .blocks) fitted _ _
+      (λ z l. sym (source-holds z c s l) ∙ ap (λ (n : ℕ). sourceHolds (shown .blocks) (placeOf x y z) n s) (sym (character shown c b a)))
 
 -- the keys that the code has
 pub keys-made :

@@ -10,14 +10,17 @@ use borrow.Author.Tests.{lt-ltb, le-ltb, eq-eqb, eqb-true}
 use Rattle.basics.proofs.Choice.{and-left, and-right, and-both, or-cases, or-left, or-right, eq-or-ne, lt-or-le}
 use Rattle.basics.proofs.Below.{any-hit, any-at}
 use Rattle.basics.proofs.Computed.{agree-test}
+use Rattle.address.specs.Addresses.{isAt}
 use Rattle.address.specs.Triples.{legalY, onPage}
 use Rattle.address.specs.Places.{placeOf, blockOf}
 use Rattle.address.specs.Rows.{rowY}
+use Rattle.address.proofs.Addresses.{listed}
 use Rattle.address.proofs.Laws.{y-facts, page-column, page-row, facts-page, row-legal, row-service, row-from-one}
 use Rattle.address.proofs.Places.{place-injective}
 use Rattle.shown.specs.declared.Shown.{Shown}
 use Rattle.shown.specs.Origins.{yorOf, firstBlock}
-use Rattle.reading.specs.Lists.{codePlace, codeHolds, rowHolds}
+use Rattle.page.specs.Codes.{codeAddress}
+use Rattle.reading.specs.Lists.{codeHolds, rowHolds}
 use Rattle.keys.specs.HowKeys.{rowAt, codeBlock}
 use Rattle.keys.proofs.Tests.{together}
 
@@ -29,21 +32,29 @@ pub no-code-block : (first : ℕ) → first < 16 → codeBlock first 255 ≡ fal
 unfolding codeBlock
 no-code-block = agree-test (λ first. codeBlock first 255) (λ first. false) 16 tt
 
-module _ (x y z : ℕ) (page : onPage x y ≡ true) (shown : Shown) (r : ℕ) where
+-- a place of the board
+module _ (x y z : ℕ) (page : onPage x y ≡ true) (shown : Shown) (fits : z < shown .blocks) (r : ℕ) where
   -- the row's Y and one of the three blocks
   abbrev own : Bool
   own = codeBlock (firstBlock shown) z && eqb (rowY (yorOf shown) r) y
 
-  found : (a k : ℕ) → a < 40 → eqb (placeOf x y z) (codePlace shown r a k) ≡ true → (rowY (yorOf shown) r ≡ y) × (blockOf (firstBlock shown) k ≡ z)
-  unfolding codePlace
+  column-legal : (a : ℕ) → a < 40 → onPage a (rowY (yorOf shown) r) ≡ true
+  column-legal a l = let row = rowY (yorOf shown) r in facts-page a row l (y-facts row (row-legal (yorOf shown) r))
+
+  at-byte : (a k : ℕ) → a < 40 → isAt (placeOf x y z) (codeAddress shown r a k) ≡ eqb (placeOf x y z) (placeOf a (rowY (yorOf shown) r) (blockOf (firstBlock shown) k))
+  unfolding codeAddress
+  at-byte a k l =
+      listed (shown .blocks) (record { x = a; y = rowY (yorOf shown) r; z = blockOf (firstBlock shown) k }) x y z page fits (column-legal a l)
+
+  found : (a k : ℕ) → a < 40 → isAt (placeOf x y z) (codeAddress shown r a k) ≡ true → (rowY (yorOf shown) r ≡ y) × (blockOf (firstBlock shown) k ≡ z)
   found a k l e =
-      let row = rowY (yorOf shown) r in
-      let same = place-injective x y z a row (blockOf (firstBlock shown) k) page (facts-page a row l (y-facts row (row-legal (yorOf shown) r))) (eqb-true _ _ e) in
+      let same = place-injective x y z a (rowY (yorOf shown) r) (blockOf (firstBlock shown) k) page (column-legal a l) (eqb-true _ _ (sym (at-byte a k l) ∙ e)) in
       (omega arith, omega arith)
 
-  there : (k : ℕ) → rowY (yorOf shown) r ≡ y → blockOf (firstBlock shown) k ≡ z → eqb (placeOf x y z) (codePlace shown r x k) ≡ true
-  unfolding codePlace
-  there k e f = eq-eqb _ _ (sym (ap (λ (a : ℕ). placeOf x a (blockOf (firstBlock shown) k)) e ∙ ap (placeOf x y) f))
+  there : (k : ℕ) → rowY (yorOf shown) r ≡ y → blockOf (firstBlock shown) k ≡ z → isAt (placeOf x y z) (codeAddress shown r x k) ≡ true
+  there k e f =
+      at-byte x k (page-column x y page)
+      ∙ eq-eqb _ _ (sym (ap (λ (a : ℕ). placeOf x a (blockOf (firstBlock shown) k)) e ∙ ap (placeOf x y) f))
 
   only : (a : ℕ) → a < 40 → codeHolds shown (placeOf x y z) r a ≡ true → own ≡ true
   unfolding codeHolds codeBlock
@@ -55,8 +66,8 @@ module _ (x y z : ℕ) (page : onPage x y ≡ true) (shown : Shown) (r : ℕ) wh
       (λ p.
       let w = found a 2 l p in
       and-both _ _ (or-right (eqb (blockOf (firstBlock shown) 0) z) _ (or-right (eqb (blockOf (firstBlock shown) 1) z) _ (eq-eqb _ _ (w .1)))) (eq-eqb _ _ (w .0)))
-      (or-cases (eqb (placeOf x y z) (codePlace shown r a 1)) _ q))
-      (or-cases (eqb (placeOf x y z) (codePlace shown r a 0)) _ e)
+      (or-cases (isAt (placeOf x y z) (codeAddress shown r a 1)) _ q))
+      (or-cases (isAt (placeOf x y z) (codeAddress shown r a 0)) _ e)
 
   held : own ≡ true → codeHolds shown (placeOf x y z) r x ≡ true
   unfolding codeHolds codeBlock
@@ -65,9 +76,9 @@ module _ (x y z : ℕ) (page : onPage x y ≡ true) (shown : Shown) (r : ℕ) wh
       ⊎-elim (λ p. or-left _ _ (there 0 f (eqb-true _ _ p)))
       (λ q.
       ⊎-elim
-      (λ p. or-right (eqb (placeOf x y z) (codePlace shown r x 0)) _ (or-left _ _ (there 1 f (eqb-true _ _ p))))
+      (λ p. or-right (isAt (placeOf x y z) (codeAddress shown r x 0)) _ (or-left _ _ (there 1 f (eqb-true _ _ p))))
       (λ p.
-      or-right (eqb (placeOf x y z) (codePlace shown r x 0)) _ (or-right (eqb (placeOf x y z) (codePlace shown r x 1)) _ (there 2 f (eqb-true _ _ p))))
+      or-right (isAt (placeOf x y z) (codeAddress shown r x 0)) _ (or-right (isAt (placeOf x y z) (codeAddress shown r x 1)) _ (there 2 f (eqb-true _ _ p))))
       (or-cases (eqb (blockOf (firstBlock shown) 1) z) _ q))
       (or-cases (eqb (blockOf (firstBlock shown) 0) z) _ (and-left _ _ e))
 

@@ -2,9 +2,11 @@
 -- believed: `keyed-cell` of proofs/Characters.antt shows that the keys tell exactly the cells that read such a byte, and `own-bytes` and `row-at` of
 -- proofs/Places.antt which row has it, and that it is found by its Y.
 -- Assumes nothing.
-use Prim.Native.Nat.{ℕ, _+_, _-_, _*_, _/_, _%_}
+use Prim.Native.Nat.{ℕ, _+_, _-_, _*_, _/_, _%_, _<_}
+use mathlib.Core.Path.{_≡_}
 use mathlib.Core.Bool.{Bool, not, _&&_, _||_}
 use mathlib.Core.List.{List}
+use mathlib.Core.Logic.{_⊎_}
 use lib.Dec.{eqb, leb, ltb}
 use lib.ListN.{getD}
 use Rattle.basics.specs.Choice.{pick}
@@ -26,6 +28,13 @@ passes f z = not (eqb z 255) && f z
 
 unfoldable pub someBlock : (ℕ → Bool) → List ℕ → Bool
 someBlock f blocks = passes f (getD blocks 0 0) || (passes f (getD blocks 1 0) || passes f (getD blocks 2 0))
+
+-- each block that is there is fitted on a board of so many
+abbrev pub AllFitted : ℕ → List ℕ → Type 0
+AllFitted board blocks =
+    ((getD blocks 0 0 ≡ 255) ⊎ (getD blocks 0 0 < board))
+    × ((getD blocks 1 0 ≡ 255) ⊎ (getD blocks 1 0 < board))
+    × ((getD blocks 2 0 ≡ 255) ⊎ (getD blocks 2 0 < board))
 
 -- some block is there
 unfoldable pub someChanged : List ℕ → Bool

@@ -4,6 +4,7 @@ use Prim.Native.Nat.{ℕ, _+_, _*_, _<_}
 use mathlib.Core.Path.{_≡_, refl, sym, ap, ap₂, _∙_}
 use mathlib.Core.Bool.{Bool, true, false, not, _&&_, _||_, or-false}
 use mathlib.Core.List.{List, [], _∷_}
+use mathlib.Core.Logic.{_⊎_, inl, inr}
 use native.Mathlib.Omega.{arith}
 use lib.Dec.{eqb}
 use lib.ListN.{length, getD}
@@ -11,11 +12,10 @@ use borrow.Author.Tests.{eq-eqb, ne-eqb, not-true}
 use Rattle.basics.specs.Choice.{pick}
 use Rattle.basics.proofs.Choice.{pick-same, or-none, or-neither}
 use Rattle.address.specs.declared.triple.Triple.{Triple}
-use Rattle.address.specs.Boards.{boardBlocks}
-use Rattle.address.specs.Triples.{legal, onPage}
+use Rattle.address.specs.Triples.{legalIn}
 use Rattle.address.specs.Places.{placeOf, blockOf, byteAt}
 use Rattle.address.specs.Narrow.{attributesAt}
-use Rattle.address.proofs.Laws.{legal-block}
+use Rattle.address.proofs.Laws.{legal-page, legal-block}
 use Rattle.address.proofs.Places.{place-within, place-block, blocks-differ}
 use Rattle.address.proofs.Positions.{attributes-apart}
 use Rattle.shown.specs.declared.Shown.{Shown}
@@ -38,9 +38,22 @@ module _ (m : List ℕ) (p q z v : ℕ) (at : q ≡ p) where
   unfolding changedBlock
   changed-there n = rw (ne-eqb (getD m p 0) v (λ e. n (ap (λ (k : ℕ). getD m k 0) at ∙ e)))
 
--- the offset in a block
-pub here-fits : (x y here : ℕ) → onPage x y ≡ true → here ≡ placeOf x y 0 → here < 1024
-here-fits x y here page e = omega (arith, place-block x y 0 page)
+-- the offset in a block, of a triple that is legal and fitted
+pub here-fits : (board : ℕ) (t : Triple) (here : ℕ) → legalIn board t ≡ true → here ≡ placeOf (t .x) (t .y) 0 → here < 1024
+here-fits board t here lawful e = omega (arith, place-block (t .x) (t .y) 0 (legal-page board t lawful))
+
+-- and the block that the code has
+pub block-fits : (board block : ℕ) (t : Triple) → legalIn board t ≡ true → block ≡ t .z → block < board
+block-fits board block t lawful e = rw e (legal-block board t lawful)
+
+-- a block that changes is fitted
+pub changed-fits : (board : ℕ) (m : List ℕ) (p z v b : ℕ) → z < board → b ≡ changedBlock m p z v → (b ≡ 255) ⊎ (b < board)
+unfolding changedBlock
+changed-fits board m p z v b l e = rw e (go (eqb (byteAt m p) v))
+  where
+    go : (t : Bool) → (pick t 255 z ≡ 255) ⊎ (pick t 255 z < board)
+    go true = inl refl
+    go false = inr l
 
 -- the block that the code has, by the place
 pub changed-at :
@@ -92,7 +105,7 @@ module _ (shown : Shown) (m : List ℕ) (marks : List Bool) (long : length marks
       stores-change x y (record { place = placeOf x y z; value = v } ∷ []) (b ∷ 255 ∷ 255 ∷ []) (tt, tt)
       (λ r. ap (λ (t : Bool). t || false) (passed x y z v b small e r))
 
-  module _ (t : Triple) (lawful : legal t ≡ true) where
+  module _ (t : Triple) where
     abbrev at : ℕ → ℕ
     at z = placeOf (t .x) (t .y) z
 
@@ -101,31 +114,29 @@ module _ (shown : Shown) (m : List ℕ) (marks : List Bool) (long : length marks
 
     -- the two stores of a position of 80 columns
     pub narrow-changes :
-        (c a u v : ℕ) → u ≡ changed (t .z) c → v ≡ changed (attributesAt t .z) a
+        (c a u v : ℕ) → t .z < 255 → attributesAt t .z < 255 → u ≡ changed (t .z) c → v ≡ changed (attributesAt t .z) a
         → storesMarks shown m (narrowStores t c a) marks ≡ changeMarks shown m (t .x) (t .y) (u ∷ v ∷ 255 ∷ []) marks
     unfolding narrowStores someBlock
-    narrow-changes c a u v eu ev =
+    narrow-changes c a u v sc sa eu ev =
         stores-change (t .x) (t .y) (narrowStores t c a) (u ∷ v ∷ 255 ∷ [])
         ((places-differ (t .x) (t .y) (attributesAt t .z) (t .z) (attributes-apart t), tt), (tt, tt))
         (λ r.
-        ap₂ _||_ (passed _ _ (t .z) c u (omega (arith, legal-block boardBlocks t lawful)) eu r)
-        (ap (λ (b : Bool). b || false) (passed _ _ (attributesAt t .z) a v (omega (arith, legal-block boardBlocks t lawful)) ev r)))
+        ap₂ _||_ (passed _ _ (t .z) c u sc eu r)
+        (ap (λ (b : Bool). b || false) (passed _ _ (attributesAt t .z) a v sa ev r)))
 
     -- the three stores of a code
     pub code-changes :
-        (c b a u v w : ℕ) → u ≡ changed (blockOf (t .z) 0) c → v ≡ changed (blockOf (t .z) 1) b → w ≡ changed (blockOf (t .z) 2) a
+        (c b a u v w : ℕ) → blockOf (t .z) 0 < 255 → blockOf (t .z) 1 < 255 → blockOf (t .z) 2 < 255
+        → u ≡ changed (blockOf (t .z) 0) c → v ≡ changed (blockOf (t .z) 1) b → w ≡ changed (blockOf (t .z) 2) a
         → storesMarks shown m (codeStores t c b a) marks ≡ changeMarks shown m (t .x) (t .y) (u ∷ v ∷ w ∷ []) marks
     unfolding codeStores someBlock
-    code-changes c b a u v w eu ev ew =
+    code-changes c b a u v w sc sb sa eu ev ew =
         stores-change (t .x) (t .y) (codeStores t c b a) (u ∷ v ∷ w ∷ [])
         ((off 1 0 (omega arith) (omega arith), (off 2 0 (omega arith) (omega arith), tt)), ((off 2 1 (omega arith) (omega arith), tt), (tt, tt)))
         (λ r.
-        ap₂ _||_ (passed _ _ (blockOf (t .z) 0) c u (small 0) eu r)
-        (ap₂ _||_ (passed _ _ (blockOf (t .z) 1) b v (small 1) ev r) (or-false _ ∙ passed _ _ (blockOf (t .z) 2) a w (small 2) ew r)))
+        ap₂ _||_ (passed _ _ (blockOf (t .z) 0) c u sc eu r)
+        (ap₂ _||_ (passed _ _ (blockOf (t .z) 1) b v sb ev r) (or-false _ ∙ passed _ _ (blockOf (t .z) 2) a w sa ew r)))
       where
-        small : (k : ℕ) → blockOf (t .z) k < 255
-        small k = omega (arith, legal-block boardBlocks t lawful)
-
         -- one is not at the place of one before it
         off : (i j : ℕ) → i < 4 → j < i → at (blockOf (t .z) i) ≡ at (blockOf (t .z) j) → ⊥
         off i j l h = places-differ (t .x) (t .y) (blockOf (t .z) i) (blockOf (t .z) j) (λ e. omega (arith, blocks-differ (t .z) i j l (omega arith) e))

@@ -2,10 +2,11 @@
 -- Assumes nothing.
 use Prim.Native.Nat.{ℕ, zero, suc, _+_, _≤_, _<_}
 use mathlib.Core.Path.{_≡_, refl, ap, ap₂, _∙_}
-use mathlib.Core.Bool.{Bool, true, false, _&&_, _||_, and-false, and-true}
+use mathlib.Core.Bool.{Bool, true, false, _&&_, _||_, and-false, and-true, or-false}
 use mathlib.Core.Logic.{⊎-elim}
 use native.Mathlib.Omega.{arith}
 use native.Mathlib.Numerals.{add-one}
+use lib.Dec.{eqb}
 use borrow.Author.Tests.{eq-eqb, ne-eqb}
 use Rattle.basics.proofs.Choice.{eq-or-ne, or-left}
 use Rattle.marking.specs.HowMarked.{fallsTo}
@@ -18,6 +19,12 @@ module _ (tall : ℕ → Bool) (row : ℕ) where
       go : (r : ℕ) → r ≡ row → fallsTo tall row r ≡ true
       go zero e = eq-eqb zero row e
       go (suc r) e = or-left _ _ (eq-eqb (suc r) row e)
+
+  -- that row alone, where none has one
+  pub falls-alone : ((r : ℕ) → tall r ≡ false) → (r : ℕ) → fallsTo tall row r ≡ eqb r row
+  unfolding fallsTo
+  falls-alone none zero = refl
+  falls-alone none (suc r) = ap (λ (t : Bool). eqb (suc r) row || (t && fallsTo tall row r)) (none (suc r)) ∙ or-false (eqb (suc r) row)
 
   -- no row above it
   pub falls-above : (r : ℕ) → r < row → fallsTo tall row r ≡ false

@@ -5,13 +5,14 @@ ghost use mathlib.Core.Bool.{true, _&&_};
 ghost use Prim.Native.Nat.{_+_, _<_, _≤_};
 ghost use lib.Dec.{eqb};
 ghost use lib.ListN.{length};
-ghost use Rattle.address.specs.Boards.{boardBlocks, memoryBytes};
+ghost use Rattle.address.specs.Boards.{bytesOf};
 ghost use Rattle.address.specs.Triples.{onPage};
 ghost use Rattle.address.specs.Rows.{rowY};
+ghost use Rattle.page.specs.HowCodes.{Has};
 ghost use Rattle.page.specs.Marks.{markedToo};
 ghost use Rattle.marking.specs.HowMarked.{fallsTo, inGroup, someOnList};
 ghost use Rattle.asking.specs.HowAsked.{tallAt, keyedAt};
-ghost use Rattle.keys.specs.HowKeys.{rowAt, someCodeBlock, keysHigh};
+ghost use Rattle.keys.specs.HowKeys.{AllFitted, rowAt, someCodeBlock, keysHigh};
 use address::row::row_y;
 use asking::row::has_tall;
 use asking::row::is_marked_or_keyed;
@@ -22,11 +23,12 @@ use keys::key::is_source;
 use keys::key::keys_of;
 use keys::key::some_code_block;
 use keys::own::row_at;
+use page::code::is_fitted;
 use shown::Shown;
 
 // The row that has the byte among its own, and those below it down to the first without a cell of double height.
 fn reach(marks: &mut [bool; 25], memory: &[u8], z: u8, yor: u8, row: u8)
-    requires { ⌜ (length (now marks) ≡ 25) × (length (now memory) ≡ memoryBytes) × (z < boardBlocks) × (row < 25) ⌝ }
+    requires { ⌜ (length (now marks) ≡ 25) × Has (now memory) z 1 × (row < 25) ⌝ }
     ensures { λ _. ⌜ now (marks .exit) ≡ markedToo (fallsTo (λ r. tallAt (now (memory .entry)) z (rowY yor r)) row) (now (marks .entry)) ⌝ }
 {
     let mut r = row as usize;
@@ -53,7 +55,7 @@ fn own_row(marks: &mut [bool; 25], z: u8, yor: u8, y: u8, blocks: [u8; 3])
 
 // The rows that read a byte at Y in one of the blocks as one of their own, or of a row above.
 fn own_marks(marks: &mut [bool; 25], memory: &[u8], z: u8, yor: u8, y: u8, blocks: [u8; 3])
-    requires { ⌜ (length (now marks) ≡ 25) × (length (now memory) ≡ memoryBytes) × (z < boardBlocks) ⌝ }
+    requires { ⌜ (length (now marks) ≡ 25) × Has (now memory) z 1 ⌝ }
     ensures { λ _. ⌜ now (marks .exit) ≡ markedToo (λ r. someCodeBlock z blocks && fallsTo (λ i. tallAt (now (memory .entry)) z (rowY yor i)) (rowAt yor y) r) (now (marks .entry)) ⌝ }
 {
     if some_code_block(z, blocks) {
@@ -63,7 +65,7 @@ fn own_marks(marks: &mut [bool; 25], memory: &[u8], z: u8, yor: u8, y: u8, block
 
 // The rows with a Y and the next that the keys fit.
 fn group_marks(marks: &mut [bool; 25], memory: &[u8], z: u8, yor: u8, first: u8, keys: Keys)
-    requires { ⌜ (length (now marks) ≡ 25) × (length (now memory) ≡ memoryBytes) × (z < boardBlocks) × (8 ≤ first) × (first < 31) × (keysHigh keys ≡ true) ⌝ }
+    requires { ⌜ (length (now marks) ≡ 25) × Has (now memory) z 0 × Has (now memory) z 1 × (8 ≤ first) × (first < 31) × (keysHigh keys ≡ true) ⌝ }
     ensures { λ _. ⌜ now (marks .exit) ≡ markedToo (λ r. inGroup first (first + 2) (rowY yor r) && keyedAt keys (now (memory .entry)) z (rowY yor r)) (now (marks .entry)) ⌝ }
 {
     for y in first..first + 2 {
@@ -75,7 +77,7 @@ fn group_marks(marks: &mut [bool; 25], memory: &[u8], z: u8, yor: u8, first: u8,
 
 // The service row, if the keys fit it. Its mark is looked at last, since most often it does not have the character.
 fn service_marks(marks: &mut [bool; 25], memory: &[u8], z: u8, keys: Keys)
-    requires { ⌜ (length (now marks) ≡ 25) × (length (now memory) ≡ memoryBytes) × (z < boardBlocks) × (keysHigh keys ≡ true) ⌝ }
+    requires { ⌜ (length (now marks) ≡ 25) × Has (now memory) z 0 × Has (now memory) z 1 × (keysHigh keys ≡ true) ⌝ }
     ensures { λ _. ⌜ now (marks .exit) ≡ markedToo (λ r. eqb r 0 && keyedAt keys (now (memory .entry)) z 0) (now (marks .entry)) ⌝ }
 {
     if service_has(memory, z, keys.character) {
@@ -87,7 +89,7 @@ fn service_marks(marks: &mut [bool; 25], memory: &[u8], z: u8, keys: Keys)
 // The rows that the keys fit, by Y: two rows of which neither has the character are left by one look at both. The service row, at Y 0, is asked
 // by itself, since no row follows on it.
 fn slice_marks(marks: &mut [bool; 25], memory: &[u8], z: u8, yor: u8, keys: Keys)
-    requires { ⌜ (length (now marks) ≡ 25) × (length (now memory) ≡ memoryBytes) × (z < boardBlocks) × (keysHigh keys ≡ true) ⌝ }
+    requires { ⌜ (length (now marks) ≡ 25) × Has (now memory) z 0 × Has (now memory) z 1 × (keysHigh keys ≡ true) ⌝ }
     ensures { λ _. ⌜ now (marks .exit) ≡ markedToo (λ r. keyedAt keys (now (memory .entry)) z (rowY yor r)) (now (marks .entry)) ⌝ }
 {
     service_marks(marks, memory, z, keys);
@@ -99,7 +101,8 @@ fn slice_marks(marks: &mut [bool; 25], memory: &[u8], z: u8, yor: u8, keys: Keys
     }
 }
 
-// The rows whose list holds a byte at X and Y in one of the blocks; 255 is none. In 80 columns a list is the row's own bytes.
+// The rows whose list holds a byte at X and Y in one of the blocks; 255 is none. In 80 columns a list is the row's own bytes. So it is where the page's second
+// block is not fitted: every B is 0 there, and no cell is of double height, of a user set or quadrichrome.
 pub fn list_marks(
     marks: &mut [bool; 25],
     shown: Shown,
@@ -108,12 +111,16 @@ pub fn list_marks(
     y: u8,
     blocks: [u8; 3],
 )
-    requires { ⌜ (length (now marks) ≡ 25) × (length (now memory) ≡ memoryBytes) × (onPage x y ≡ true) ⌝ }
+    requires { ⌜ (length (now marks) ≡ 25) × (length (now memory) ≡ bytesOf (shown .blocks)) × (onPage x y ≡ true) × AllFitted (shown .blocks) blocks ⌝ }
     ensures { λ _. ⌜ now (marks .exit) ≡ markedToo (someOnList shown (now (memory .entry)) x y blocks) (now (marks .entry)) ⌝ }
 {
     let z = shown.first_block();
     let yor = shown.yor();
     if shown.is_eighty() {
+        own_row(marks, z, yor, y, blocks);
+        return;
+    }
+    if !is_fitted(shown, 1) {
         own_row(marks, z, yor, y, blocks);
         return;
     }

@@ -4,9 +4,11 @@ ghost use mathlib.Core.Bool.{true};
 ghost use Prim.Native.Nat.{_+_, _*_, _<_};
 ghost use lib.ListN.{length};
 ghost use Rattle.basics.specs.Below.{anyBelow};
-ghost use Rattle.address.specs.Boards.{boardBlocks, memoryBytes};
-ghost use Rattle.address.specs.Triples.{legal, onPage};
-ghost use Rattle.address.specs.Places.{placeOf};
+ghost use Rattle.address.specs.Boards.{bytesOf};
+ghost use Rattle.address.specs.Narrow.{attributesAt};
+ghost use Rattle.address.specs.Triples.{legalIn, onPage};
+ghost use Rattle.address.specs.Places.{placeOf, blockAt};
+ghost use Rattle.keys.specs.HowKeys.{AllFitted};
 ghost use Rattle.page.specs.Marks.{markedToo};
 ghost use Rattle.reading.specs.Marks.{storeMarks, storesMarks, codeStores, narrowStores};
 ghost use Rattle.marking.specs.HowMarked.{isUnmarked, changedBlock, someOnList, changeMarks};
@@ -41,7 +43,7 @@ fn asked_marks(
     y: u8,
     blocks: [u8; 3],
 ) -> [bool; 25]
-    requires { ⌜ (length (now memory) ≡ memoryBytes) × (onPage x y ≡ true) ⌝ }
+    requires { ⌜ (length (now memory) ≡ bytesOf (shown .blocks)) × (onPage x y ≡ true) × AllFitted (shown .blocks) blocks ⌝ }
     ensures { λ r. ⌜ r ≡ markedToo (someOnList shown (now (memory .entry)) x y blocks) marks ⌝ }
 {
     let mut after = marks;
@@ -60,7 +62,7 @@ fn change_marks(
     y: u8,
     blocks: [u8; 3],
 ) -> [bool; 25]
-    requires { ⌜ (length (now memory) ≡ memoryBytes) × (onPage x y ≡ true) ⌝ }
+    requires { ⌜ (length (now memory) ≡ bytesOf (shown .blocks)) × (onPage x y ≡ true) × AllFitted (shown .blocks) blocks ⌝ }
     ensures { λ r. ⌜ r ≡ changeMarks shown (now (memory .entry)) x y blocks marks ⌝ }
 {
     if shown.can_draw() {
@@ -69,10 +71,10 @@ fn change_marks(
     marks
 }
 
-// Block Z where the value changes the byte that it has at this offset, and else 255.
-fn changed_block(memory: &[u8], at: usize, z: u8, value: u8) -> u8
-    requires { ⌜ (length (now memory) ≡ memoryBytes) × (at < 1024) × (z < boardBlocks) ⌝ }
-    ensures { λ r. ⌜ r ≡ changedBlock (now (memory .entry)) (1024 * z + at) z value ⌝ }
+// Block Z where the value changes the byte that it has at this offset, and else 255. The number of the board's blocks is a byte, so that 255 is none of them.
+fn changed_block(memory: &[u8], board: u8, at: usize, z: u8, value: u8) -> u8
+    requires { ⌜ (length (now memory) ≡ bytesOf board) × (at < 1024) × (z < board) ⌝ }
+    ensures { λ r. ⌜ (r ≡ changedBlock (now (memory .entry)) (1024 * z + at) z value) × (z < 255) ⌝ }
 {
     if memory[z as usize * 1024 + at] == value {
         return 255;
@@ -80,7 +82,7 @@ fn changed_block(memory: &[u8], at: usize, z: u8, value: u8) -> u8
     z
 }
 
-// The marks after C, B and A are stored at a legal triple and in the two blocks after its own; the stores themselves come after. Three
+// The marks after C, B and A are stored at a legal triple and in the two blocks after its own, all fitted; the stores themselves come after. Three
 // stores mark what the lists before the first of them hold, so one look at a row answers for all three.
 pub fn code_marks(
     marks: [bool; 25],
@@ -91,14 +93,15 @@ pub fn code_marks(
     b: u8,
     a: u8,
 ) -> [bool; 25]
-    requires { ⌜ (length (now memory) ≡ memoryBytes) × (legal at ≡ true) ⌝ }
+    requires { ⌜ (length (now memory) ≡ bytesOf (shown .blocks))
+        × (legalIn (shown .blocks) (blockAt at 0) ≡ true) × (legalIn (shown .blocks) (blockAt at 1) ≡ true) × (legalIn (shown .blocks) (blockAt at 2) ≡ true) ⌝ }
     ensures { λ r. ⌜ r ≡ storesMarks shown (now (memory .entry)) (codeStores at c b a) marks ⌝ }
 {
     let here = place_at(at.x as u16, at.y as u16, 0);
     let blocks = [
-        changed_block(memory, here, block(at.z, 0), c),
-        changed_block(memory, here, block(at.z, 1), b),
-        changed_block(memory, here, block(at.z, 2), a),
+        changed_block(memory, shown.blocks, here, block(at.z, 0), c),
+        changed_block(memory, shown.blocks, here, block(at.z, 1), b),
+        changed_block(memory, shown.blocks, here, block(at.z, 2), a),
     ];
     if !some_changed(blocks) {
         return marks;
@@ -106,7 +109,7 @@ pub fn code_marks(
     change_marks(marks, shown, memory, at.x, at.y, blocks)
 }
 
-// The marks after C and the attributes of its column are stored at a legal triple's place and at theirs; the stores themselves come after.
+// The marks after C and the attributes of its column are stored at a legal triple's place and at theirs, both fitted; the stores themselves come after.
 pub fn narrow_marks(
     marks: [bool; 25],
     shown: Shown,
@@ -115,14 +118,14 @@ pub fn narrow_marks(
     c: u8,
     a: u8,
 ) -> [bool; 25]
-    requires { ⌜ (length (now memory) ≡ memoryBytes) × (legal at ≡ true) ⌝ }
+    requires { ⌜ (length (now memory) ≡ bytesOf (shown .blocks)) × (legalIn (shown .blocks) at ≡ true) × (legalIn (shown .blocks) (attributesAt at) ≡ true) ⌝ }
     ensures { λ r. ⌜ r ≡ storesMarks shown (now (memory .entry)) (narrowStores at c a) marks ⌝ }
 {
     let here = place_at(at.x as u16, at.y as u16, 0);
     let attributes = attributes_at(at);
     let blocks = [
-        changed_block(memory, here, at.z, c),
-        changed_block(memory, here, attributes.z, a),
+        changed_block(memory, shown.blocks, here, at.z, c),
+        changed_block(memory, shown.blocks, here, attributes.z, a),
         255,
     ];
     if !some_changed(blocks) {
@@ -131,7 +134,7 @@ pub fn narrow_marks(
     change_marks(marks, shown, memory, at.x, at.y, blocks)
 }
 
-// The marks after a store of `value` at a legal triple; the store itself comes after.
+// The marks after a store of `value` at a triple that is legal and fitted; the store itself comes after.
 pub fn store_marks(
     marks: [bool; 25],
     shown: Shown,
@@ -139,11 +142,15 @@ pub fn store_marks(
     at: Triple,
     value: u8,
 ) -> [bool; 25]
-    requires { ⌜ (length (now memory) ≡ memoryBytes) × (legal at ≡ true) ⌝ }
+    requires { ⌜ (length (now memory) ≡ bytesOf (shown .blocks)) × (legalIn (shown .blocks) at ≡ true) ⌝ }
     ensures { λ r. ⌜ r ≡ storeMarks shown (now (memory .entry)) (placeOf (at .x) (at .y) (at .z)) value marks ⌝ }
 {
     let here = place_at(at.x as u16, at.y as u16, 0);
-    let blocks = [changed_block(memory, here, at.z, value), 255, 255];
+    let blocks = [
+        changed_block(memory, shown.blocks, here, at.z, value),
+        255,
+        255,
+    ];
     if !some_changed(blocks) {
         return marks;
     }

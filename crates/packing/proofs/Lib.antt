@@ -1,3 +1,4 @@
 pub mod Parts
+pub mod Boards
 pub mod Layouts
 pub mod RoundTrip

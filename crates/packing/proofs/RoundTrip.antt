@@ -6,11 +6,13 @@ use mathlib.Core.Bool.{Bool, true, false}
 use mathlib.Core.List.{List, [], _∷_, _++_, map, append-assoc}
 use native.Mathlib.Omega.{arith}
 use lib.ListN.{length, getD, take, drop, length-append, length-map}
-use lib.Seq.{take-at, drop-at, drop-drop, getD-drop}
+use lib.Seq.{getD-at, take-at, drop-at, drop-drop, getD-drop}
 use Rattle.basics.specs.Choice.{oneIf}
+use Rattle.address.specs.Boards.{isBoard}
 use Rattle.processor.specs.declared.state.Processor.{Processor}
 use Rattle.processor.specs.Sizes.{Sized}
-use Rattle.packing.specs.Layouts.{packed, unpacked, isOn}
+use Rattle.packing.specs.Layouts.{packed, unpacked, isOn, boardOf}
+use Rattle.packing.proofs.Boards.{board-back, board-named}
 use Rattle.packing.proofs.Parts.{length-part, length-marks}
 
 -- marks as bytes and back
@@ -24,12 +26,12 @@ on-flag true = refl
 on-flag false = refl
 
 -- parts of a list that is made of five
-module _ (r i : List ℕ) (x y z : ℕ) (marks rest : List ℕ) (lr : length r ≡ 8) (li : length i ≡ 8) (lm : length marks ≡ 25) where
+module _ (r i : List ℕ) (x y z : ℕ) (marks : List ℕ) (n : ℕ) (rest : List ℕ) (lr : length r ≡ 8) (li : length i ≡ 8) (lm : length marks ≡ 25) where
   abbrev whole : List ℕ
-  whole = r ++ i ++ (x ∷ y ∷ z ∷ []) ++ marks ++ rest
+  whole = r ++ i ++ (x ∷ y ∷ z ∷ []) ++ marks ++ (n ∷ rest)
 
   abbrev after : List ℕ
-  after = (x ∷ y ∷ z ∷ []) ++ (marks ++ rest)
+  after = (x ∷ y ∷ z ∷ []) ++ (marks ++ (n ∷ rest))
 
   right-first : whole ≡ r ++ (i ++ after)
   right-first = simp append-assoc
@@ -51,22 +53,29 @@ module _ (r i : List ℕ) (x y z : ℕ) (marks rest : List ℕ) (lr : length r �
   at-place n = sym (getD-drop 16 whole n 0) ∙ ap (λ (l : List ℕ). getD l n 0) behind
 
   last-part : take 25 (drop 19 whole) ≡ marks
-  last-part = ap (take 25) (sym (drop-drop 3 16 whole) ∙ ap (drop 3) behind) ∙ take-at marks rest 25 lm
+  last-part = ap (take 25) (sym (drop-drop 3 16 whole) ∙ ap (drop 3) behind) ∙ take-at marks (n ∷ rest) 25 lm
+
+  board-place : getD whole 44 0 ≡ n
+  board-place = at-place 28 ∙ getD-at marks n rest 0 25 lm
 
   -- unpacked
   made :
       unpacked whole
-      ≡ record { registers = r; indirect = i; lxm = isOn x; lxa = isOn y; phase = z; marks = map isOn marks }
+      ≡ record { registers = r; indirect = i; lxm = isOn x; lxa = isOn y; phase = z; marks = map isOn marks; blocks = boardOf n }
   unfolding unpacked
-  made = rw (first-part, second-part, at-place 0, at-place 1, at-place 2, last-part)
+  made = rw (first-part, second-part, at-place 0, at-place 1, at-place 2, last-part, board-place)
 
--- every processor comes back as it was
-pub unpacked-packed : (p : Processor) → Sized p → unpacked (packed p) ≡ p
+-- every processor of a board comes back as it was
+pub unpacked-packed : (p : Processor) → Sized p → isBoard (p .blocks) ≡ true → unpacked (packed p) ≡ p
 unfolding packed
-unpacked-packed p s =
-    rw (made _ _ _ _ _ _ _ (s .0) (s .1) (length-map (p .marks) oneIf ∙ s .2)) (simp (on-flag, on-one))
+unpacked-packed p s b =
+    rw (made _ _ _ _ _ _ _ _ (s .0) (s .1) (length-map (p .marks) oneIf ∙ s .2)) (simp (on-flag, on-one, board-back (p .blocks) b))
 
 -- any 64 bytes are a processor's
 pub unpacked-sized : (bytes : List ℕ) → length bytes ≡ 64 → Sized (unpacked bytes)
 unfolding unpacked
 unpacked-sized bytes l = (length-part 0 8 bytes (omega arith), length-part 8 8 bytes (omega arith), length-marks 19 25 bytes (omega arith))
+
+pub unpacked-board : (bytes : List ℕ) → isBoard (unpacked bytes .blocks) ≡ true
+unfolding unpacked
+unpacked-board bytes = board-named (getD bytes 44 0)

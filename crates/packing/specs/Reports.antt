@@ -17,7 +17,7 @@ registersShown p =
 abbrev pub drawnBy : Shown → List ℕ
 drawnBy shown = shown .tgs ∷ shown .mat ∷ shown .pat ∷ shown .dor ∷ shown .ror ∷ shown .phase ∷ []
 
--- R1 to R7, the command, the status, TGS, MAT, PAT, DOR, ROR, the phase, the 25 marks (1 or 0), and 8 bytes of 0
+-- R1 to R7, the command, the status, TGS, MAT, PAT, DOR, ROR, the phase, the 25 marks (1 or 0), a byte of 0, the blocks, and 6 bytes of 0
 unfoldable pub reported : Processor → List ℕ
 reported p =
-    registersShown p ++ drawnBy (shownOf p) ++ map oneIf (p .marks) ++ replicate 8 0
+    registersShown p ++ drawnBy (shownOf p) ++ map oneIf (p .marks) ++ 0 ∷ p .blocks ∷ replicate 6 0

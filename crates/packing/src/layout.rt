@@ -1,12 +1,35 @@
 // The 64 bytes that hold a processor.
 ghost use mathlib.Core.Path.{_≡_};
-ghost use Rattle.packing.specs.Layouts.{packed, unpacked};
+ghost use mathlib.Core.Bool.{true};
+ghost use Rattle.address.specs.Boards.{isBoard};
+ghost use Rattle.packing.specs.Layouts.{boardByte, boardOf, packed, unpacked};
 use crate::part::eight_from;
 use crate::part::flag;
 use crate::part::marks_from;
 use crate::part::put_eight;
 use crate::part::put_marks;
+use address::board::BLOCKS;
 use processor::state::Processor;
+
+// The byte of a board: 0 stands for 16 blocks.
+fn board_byte(blocks: u8) -> u8
+    ensures { λ r. ⌜ r ≡ boardByte blocks ⌝ }
+{
+    if blocks == BLOCKS {
+        return 0;
+    }
+    blocks
+}
+
+// The board of a byte: 2 and 8 name one, and any other stands for 16 blocks.
+fn board_of(byte: u8) -> u8
+    ensures { λ r. ⌜ r ≡ boardOf byte ⌝ }
+{
+    if (byte == 2) | (byte == 8) {
+        return byte;
+    }
+    BLOCKS
+}
 
 pub fn unpacked(bytes: [u8; 64]) -> Processor
     ensures { λ r. ⌜ r ≡ unpacked bytes ⌝ }
@@ -21,17 +44,19 @@ pub fn unpacked(bytes: [u8; 64]) -> Processor
         lxa: bytes[17] != 0,
         phase: bytes[18],
         marks,
+        blocks: board_of(bytes[44]),
     }
 }
 
-// Whatever the processor, its bytes unpack to it.
+// Whatever the processor of a board, its bytes unpack to it.
 pub fn packed(p: Processor) -> [u8; 64]
-    ensures { λ r. ⌜ (r ≡ packed p) × (unpacked r ≡ p) ⌝ }
+    ensures { λ r. ⌜ (r ≡ packed p) × (isBoard (p .blocks) ≡ true → unpacked r ≡ p) ⌝ }
 {
     let mut bytes = [0u8; 64];
     bytes[16] = flag(p.lxm);
     bytes[17] = flag(p.lxa);
     bytes[18] = p.phase;
+    bytes[44] = board_byte(p.blocks);
     let registers = p.registers;
     let indirect = p.indirect;
     let marks = p.marks;

@@ -27,6 +27,7 @@ pub fn reported(p: Processor) -> [u8; 48]
     bytes[12] = indirect[4];
     bytes[13] = indirect[7];
     bytes[14] = p.phase;
+    bytes[41] = p.blocks;
     put_marks(&mut bytes, 15, marks);
     bytes
 }

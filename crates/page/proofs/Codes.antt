@@ -1,27 +1,33 @@
--- Laws of a row's code bytes: their places are in memory, and the attributes of a bichrome cell.
+-- Laws of a row's code bytes: where they are in memory, that those which are not fitted are 0 as memory has them, and the attributes of a bichrome cell.
 -- Assumes nothing.
 use Prim.Native.Nat.{ℕ, _+_, _*_, _-_, _<_, _≤_}
-use mathlib.Core.Path.{_≡_, _∙_}
-use mathlib.Core.Bool.{false, not, _&&_}
+use mathlib.Core.Path.{_≡_, sym, ap, _∙_}
+use mathlib.Core.Bool.{true, false, not, _&&_}
 use mathlib.Core.List.{List, [], _∷_}
 use mathlib.Core.Logic.{⊎-elim}
 use native.Mathlib.Omega.{arith}
 use lib.Dec.{ltb}
-use borrow.Author.Tests.{lt-ltb, le-ltb, le-leb, lt-leb}
+use lib.ListN.{length, List·getD-eq-default}
+use borrow.Author.Tests.{lt-ltb, le-ltb, le-leb, lt-leb, ltb-true, ltb-false}
 use Rattle.basics.specs.Choice.{pick}
 use Rattle.basics.proofs.Choice.{lt-or-le, eq-or-ne}
 use Rattle.basics.specs.Bits.{isSet}
 use Rattle.basics.specs.Parts.{table}
+use Rattle.basics.proofs.Parts.{table-same}
+use Rattle.address.specs.Addresses.{byteFrom}
 use Rattle.address.specs.Boards.{bytesOf}
 use Rattle.address.specs.Places.{placeOf, blockOf, byteAt}
-use Rattle.address.proofs.Laws.{place-left, place-service, place-right}
-use Rattle.address.proofs.Places.{place-fits, place-within}
+use Rattle.address.specs.Triples.{onPage}
+use Rattle.address.proofs.Addresses.{byte-kept}
+use Rattle.address.proofs.Laws.{place-left, place-service, place-right, facts-page, row-facts}
+use Rattle.address.proofs.Places.{place-fits, place-block, place-within}
 use Rattle.cell.specs.Cells.{isQuadrichrome}
 use Rattle.cell.proofs.Codes.{top-two}
 use Rattle.address.specs.Rows.{rowY}
 use Rattle.shown.specs.declared.Shown.{Shown}
 use Rattle.shown.specs.Origins.{yorOf, firstBlock}
-use Rattle.page.specs.Codes.{codeOf, rowBuffer}
+use Rattle.page.specs.Codes.{codeAddress, codeAt, rowBuffer}
+use Rattle.page.specs.HowCodes.{codeOf, isFitted, Has}
 
 -- where the code finds column x: from the starts of the left columns and of the right ones in block 0
 module _ (y left right x at : ℕ) (el : left ≡ placeOf 0 y 0) (er : right ≡ placeOf 32 y 0) (column : x < 40) (e : at ≡ pick (ltb x 32) (left + x) (right + (x - 32))) where
@@ -42,9 +48,9 @@ module _ (y left right x at : ℕ) (el : left ≡ placeOf 0 y 0) (er : right ≡
   byte-place : (z k start : ℕ) → start ≡ 1024 * blockOf z k → start + at ≡ placeOf x y (blockOf z k)
   byte-place z k start es = omega (arith, es, column-place, place-within x y (blockOf z k))
 
-  -- is on a board of n blocks
-  pub byte-fits : (n z k start : ℕ) → start ≡ 1024 * blockOf z k → y < 32 → blockOf z k < n → start + at < bytesOf n
-  byte-fits n z k start es hy hz = omega (arith, byte-place z k start es, place-fits n x y (blockOf z k) column hy hz)
+  -- is in memory, where memory has its block
+  pub byte-fits : (m : List ℕ) (z k start : ℕ) → start ≡ 1024 * blockOf z k → y < 32 → Has m z k → start + at < length m
+  byte-fits m z k start es hy hz = omega (arith, byte-place z k start es, place-fits (blockOf z k + 1) x y (blockOf z k) column hy (omega arith))
 
   -- the three bytes
   pub code-listed :
@@ -66,7 +72,45 @@ module _ (b k : ℕ) where
   pub quadrichrome-bit : 192 ≤ b → b < 256 → false ≡ (not (isQuadrichrome b) && isSet k b)
   quadrichrome-bit h l = rw (top-two b l ∙ le-leb 192 b h)
 
--- the row buffer, from the block and the Y that the code has
-pub buffer :
-    (shown : Shown) (m : List ℕ) (r z y yor : ℕ) → z ≡ firstBlock shown → y ≡ rowY yor r → yor ≡ yorOf shown → table (codeOf m z y) 40 ≡ rowBuffer shown m r
-buffer shown m r z y yor ez ey eo = rw (ez, ey, eo)
+-- a byte past the end of memory
+pub bare-byte : (m : List ℕ) (z y x k : ℕ) → onPage x y ≡ true → length m ≤ 1024 * blockOf z k → byteAt m (placeOf x y (blockOf z k)) ≡ 0
+bare-byte m z y x k g l = List·getD-eq-default m 0 (omega (arith, l, place-block x y (blockOf z k) g .0))
+
+module _ (shown : Shown) (m : List ℕ) (whole : length m ≡ bytesOf (shown .blocks)) where
+  byte-there : (r x k : ℕ) → x < 40 → byteFrom m (codeAddress shown r x k) ≡ byteAt m (placeOf x (rowY (yorOf shown) r) (blockOf (firstBlock shown) k))
+  unfolding codeAddress
+  byte-there r x k l =
+      let y = rowY (yorOf shown) r in
+      byte-kept (shown .blocks) (record { x = x; y = y; z = blockOf (firstBlock shown) k }) m whole (facts-page x y l (row-facts (yorOf shown) r))
+
+  -- a cell's code, whether or not its bytes are fitted, is what memory has at their places, and 0 past its end
+  pub code-kept : (r x : ℕ) → x < 40 → codeAt shown m r x ≡ codeOf m (firstBlock shown) (rowY (yorOf shown) r) x
+  unfolding codeAt codeOf
+  code-kept r x l = rw (byte-there r x 0 l, byte-there r x 1 l, byte-there r x 2 l)
+
+  -- the row buffer, from the block and the Y that the code has
+  pub buffer : (r z y yor : ℕ) → z ≡ firstBlock shown → y ≡ rowY yor r → yor ≡ yorOf shown → table (codeOf m z y) 40 ≡ rowBuffer shown m r
+  buffer r z y yor ez ey eo = rw (ez, ey, eo) (sym (table-same (codeAt shown m r) (codeOf m (firstBlock shown) (rowY (yorOf shown) r)) 40 (code-kept r)))
+
+  -- memory has the page's blocks that are fitted, and ends before the others
+  pub has-block : (k : ℕ) → isFitted shown k ≡ true → Has m (firstBlock shown) k
+  has-block k e = omega (arith, whole, ltb-true (blockOf (firstBlock shown) k) (shown .blocks) e)
+
+  pub bare-block : (k : ℕ) → isFitted shown k ≡ false → length m ≤ 1024 * blockOf (firstBlock shown) k
+  bare-block k e = omega (arith, whole, ltb-false (blockOf (firstBlock shown) k) (shown .blocks) e)
+
+-- where the second block of a page is fitted, the first is: its number is even
+pub first-fitted : (shown : Shown) → isFitted shown 1 ≡ true → isFitted shown 0 ≡ true
+first-fitted shown e =
+    let z = firstBlock shown in lt-ltb (blockOf z 0) (shown .blocks) (omega (arith, ltb-true (blockOf z 1) (shown .blocks) e))
+
+-- memory has all three blocks where the second and the third are fitted
+pub has-code :
+    (shown : Shown) (m : List ℕ) → length m ≡ bytesOf (shown .blocks) → (z : ℕ) → z ≡ firstBlock shown → isFitted shown 1 ≡ true → isFitted shown 2 ≡ true
+    → Has m z 0 × Has m z 1 × Has m z 2
+has-code shown m whole z e p q = rw e (has-block shown m whole 0 (first-fitted shown p), has-block shown m whole 1 p, has-block shown m whole 2 q)
+
+-- a cell's code, by ROR and the board alone
+pub code-ignores : (a b : Shown) → a .ror ≡ b .ror → a .blocks ≡ b .blocks → (m : List ℕ) (r x : ℕ) → codeAt a m r x ≡ codeAt b m r x
+unfolding codeAt codeAddress
+code-ignores a b ror blocks m r x = rw (ror, blocks)

@@ -1,24 +1,24 @@
 -- Laws of a stretch of cells: its bytes stand side by side, the tests of its bytes are those of its cells, and a row is two stretches.
 -- Assumes nothing.
-use Prim.Native.Nat.{ℕ, _+_, _/_, _%_, _≤_, _<_}
+use Prim.Native.Nat.{ℕ, _+_, _*_, _/_, _%_, _≤_, _<_}
 use mathlib.Core.Path.{_≡_, refl, sym, ap, ap₂, _∙_}
-use mathlib.Core.Bool.{Bool, not, _&&_, _||_}
+use mathlib.Core.Bool.{Bool, true, false, not, _&&_, _||_}
 use mathlib.Core.List.{List, [], _∷_}
 use mathlib.Core.Logic.{⊎-elim}
 use native.Mathlib.Omega.{arith}
 use lib.Dec.{ltb, eqb}
-use lib.ListN.{getD}
+use lib.ListN.{length, getD, List·getD-eq-default}
 use Rattle.basics.specs.Below.{anyBelow}
 use Rattle.basics.proofs.Below.{any-same, any-split}
 use Rattle.basics.proofs.Choice.{lt-or-le, eq-or-ne}
 use Rattle.basics.proofs.Computed.{agree-test}
-use Rattle.address.specs.Boards.{boardBlocks, bytesOf}
 use Rattle.address.specs.Places.{placeOf, blockOf}
 use Rattle.address.proofs.Laws.{place-left, place-service, place-right}
+use Rattle.address.proofs.Places.{place-within}
 use Rattle.cell.specs.Cells.{isQuadrichrome}
-use Rattle.page.specs.Codes.{codeOf}
+use Rattle.page.specs.HowCodes.{codeOf, Has}
 use Rattle.page.specs.Halves.{isTall, isWide, sameCode, goesOn}
-use Rattle.page.specs.HowHalves.{Within, stretchCode, goesOnIn}
+use Rattle.page.specs.HowHalves.{Within, Compared, stretchCode, goesOnIn}
 use Rattle.page.specs.declared.stretch.Starts.{Starts}
 
 -- a stretch that crosses from column 31 to column 32 has two starts; another has one
@@ -58,11 +58,21 @@ module _ (first i : ℕ) (column : first + i < 40) (side : first % 32 + i < 32) 
   unfolding codeOf
   code-from m y z s ec eb ea = rw (byte m y z (s .c) 0 ec, byte m y z (s .b) 1 eb, byte m y z (s .a) 2 ea)
 
--- a stretch is in the memory of a board of so many blocks
+  -- the same where memory ends before the third block
+  bare-from :
+      (m : List ℕ) (y z c b : ℕ) → c ≡ placeOf first y (blockOf z 0) → b ≡ placeOf first y (blockOf z 1) → length m ≤ 1024 * blockOf z 2
+      → _≡_ {A = List ℕ} (getD m (c + i) 0 ∷ getD m (b + i) 0 ∷ 0 ∷ []) (codeOf m z y (first + i))
+  unfolding codeOf
+  bare-from m y z c b ec eb short =
+      let none : getD m (placeOf (first + i) y (blockOf z 2)) 0 ≡ 0 =
+      List·getD-eq-default m 0 (omega (arith, place-within (first + i) y (blockOf z 2))) in
+      rw (byte m y z c 0 ec, byte m y z b 1 eb, none)
+
+-- a stretch is in memory, where memory has its block
 pub stretch-fits :
-    (blocks first n y z k start : ℕ) → start ≡ placeOf first y (blockOf z k) → blockOf z k < blocks → y < 32 → first + n ≤ 40 → first % 32 + n ≤ 32
-    → start + n ≤ bytesOf blocks
-stretch-fits blocks first n y z k start e hz hy column side =
+    (m : List ℕ) (first n y z k start : ℕ) → start ≡ placeOf first y (blockOf z k) → Has m z k → y < 32 → first + n ≤ 40 → first % 32 + n ≤ 32
+    → start + n ≤ length m
+stretch-fits m first n y z k start e hz hy column side =
     ⊎-elim
     (λ l. omega (arith, place-left first y (blockOf z k) l))
     (λ l.
@@ -74,18 +84,18 @@ stretch-fits blocks first n y z k start e hz hy column side =
 
 -- and so are all three of its bytes
 pub starts-fit :
-    (first n y z : ℕ) (s : Starts)
+    (m : List ℕ) (first n y z : ℕ) (s : Starts)
     → (s .c ≡ placeOf first y (blockOf z 0)) × (s .b ≡ placeOf first y (blockOf z 1)) × (s .a ≡ placeOf first y (blockOf z 2))
-    → z < boardBlocks → y < 32 → first + n ≤ 40 → first % 32 + n ≤ 32 → Within s n
-starts-fit first n y z s e hz hy column side = (
-  stretch-fits boardBlocks first n y z 0 (s .c) (e .0) (omega arith) hy column side,
-  stretch-fits boardBlocks first n y z 1 (s .b) (e .1) (omega arith) hy column side,
-  stretch-fits boardBlocks first n y z 2 (s .a) (e .2) (omega arith) hy column side,
+    → Has m z 0 → Has m z 1 → Has m z 2 → y < 32 → first + n ≤ 40 → first % 32 + n ≤ 32 → Within m s n
+starts-fit m first n y z s e h0 h1 h2 hy column side = (
+  stretch-fits m first n y z 0 (s .c) (e .0) h0 hy column side,
+  stretch-fits m first n y z 1 (s .b) (e .1) h1 hy column side,
+  stretch-fits m first n y z 2 (s .a) (e .2) h2 hy column side,
 )
 
 -- fewer cells of it
-pub within-less : (s : Starts) (n i : ℕ) → Within s n → i < n → Within s (i + 1)
-within-less s n i w l = (omega (arith, w .0), omega (arith, w .1), omega (arith, w .2))
+pub within-less : (m : List ℕ) (s : Starts) (n i : ℕ) → Within m s n → i < n → Within m s (i + 1)
+within-less m s n i w l = (omega (arith, w .0), omega (arith, w .1), omega (arith, w .2))
 
 -- a bichrome cell's B
 pub bichrome-test : (b : ℕ) → b < 256 → ltb b 192 ≡ not (isQuadrichrome b)
@@ -125,6 +135,55 @@ pub goes-on-from :
     → goesOn (isTall (stretchCode m here i)) (stretchCode m here i) (stretchCode m above i) ≡ goesOnIn m z y u (first + i)
 goes-on-from first i column side m y u z here above h a =
     rw (code-from first i column side m y z here (h .0) (h .1) (h .2), code-from first i column side m u z above (a .0) (a .1) (a .2))
+
+-- where every third byte is 0, the first bytes compared twice tell the same
+on-twice :
+    (c b d e : ℕ)
+    → goesOn (isTall (c ∷ b ∷ c ∷ [])) (c ∷ b ∷ c ∷ []) (d ∷ e ∷ d ∷ []) ≡ goesOn (isTall (c ∷ b ∷ 0 ∷ [])) (c ∷ b ∷ 0 ∷ []) (d ∷ e ∷ 0 ∷ [])
+unfolding isTall sameCode
+on-twice c b d e = ap (λ (s : Bool). isTall (c ∷ b ∷ 0 ∷ []) && s) (go (eqb c d) (eqb b e))
+  where
+    go : (p q : Bool) → (p && (q && p)) ≡ (p && (q && true))
+    go true q = refl
+    go false q = refl
+
+-- what the code compares: the starts of C and B, and of the page's block t
+module _ (m : List ℕ) (z t : ℕ) (fit : Compared m z t) where
+  pub compared-fit :
+      (first n y : ℕ) (s : Starts)
+      → (s .c ≡ placeOf first y (blockOf z 0)) × (s .b ≡ placeOf first y (blockOf z 1)) × (s .a ≡ placeOf first y (blockOf z t))
+      → y < 32 → first + n ≤ 40 → first % 32 + n ≤ 32 → Within m s n
+  compared-fit first n y s e hy column side = (
+    stretch-fits m first n y z 0 (s .c) (e .0) (fit .0) hy column side,
+    stretch-fits m first n y z 1 (s .b) (e .1) (fit .1) hy column side,
+    stretch-fits m first n y z t (s .a) (e .2) has-third hy column side,
+  )
+    where
+      has-third : Has m z t
+      has-third = ⊎-elim (λ f. rw (f .0) (f .1)) (λ f. rw (f .0) (fit .0)) (fit .2)
+
+  pub compared-on :
+      (first i : ℕ) → first + i < 40 → first % 32 + i < 32 → (y u : ℕ) (here above : Starts)
+      → (here .c ≡ placeOf first y (blockOf z 0)) × (here .b ≡ placeOf first y (blockOf z 1)) × (here .a ≡ placeOf first y (blockOf z t))
+      → (above .c ≡ placeOf first u (blockOf z 0)) × (above .b ≡ placeOf first u (blockOf z 1)) × (above .a ≡ placeOf first u (blockOf z t))
+      → goesOn (isTall (stretchCode m here i)) (stretchCode m here i) (stretchCode m above i) ≡ goesOnIn m z y u (first + i)
+  compared-on first i column side y u here above h a = ⊎-elim whole bare (fit .2)
+    where
+      On : Type 0
+      On = goesOn (isTall (stretchCode m here i)) (stretchCode m here i) (stretchCode m above i) ≡ goesOnIn m z y u (first + i)
+
+      whole : (t ≡ 2) × Has m z 2 → On
+      whole f =
+          goes-on-from first i column side m y u z here above (h .0, h .1, h .2 ∙ ap (λ (k : ℕ). placeOf first y (blockOf z k)) (f .0))
+          (a .0, a .1, a .2 ∙ ap (λ (k : ℕ). placeOf first u (blockOf z k)) (f .0))
+
+      bare : (t ≡ 0) × (length m ≤ 1024 * blockOf z 2) → On
+      bare f =
+          let here-a : here .a ≡ here .c = h .2 ∙ ap (λ (k : ℕ). placeOf first y (blockOf z k)) (f .0) ∙ sym (h .0) in
+          let above-a : above .a ≡ above .c = a .2 ∙ ap (λ (k : ℕ). placeOf first u (blockOf z k)) (f .0) ∙ sym (a .0) in
+          rw (here-a, above-a)
+          (on-twice (getD m (here .c + i) 0) (getD m (here .b + i) 0) (getD m (above .c + i) 0) (getD m (above .b + i) 0)
+          ∙ rw (bare-from first i column side m y z (here .c) (here .b) (h .0) (h .1) (f .1), bare-from first i column side m u z (above .c) (above .b) (a .0) (a .1) (f .1)))
 
 -- the two stretches of a row
 pub row-stretches :

@@ -1,14 +1,16 @@
 -- How the code asks for halves: of the row buffer along a row, of the bytes in memory down a column. Nothing here has to be believed:
 -- `right-row` and `lower-next` of crate halves show that it gives the halves of Halves.antt.
 -- Assumes nothing.
-use Prim.Native.Nat.{ℕ, _+_, _-_, _<_, _≤_}
+use Prim.Native.Nat.{ℕ, _+_, _-_, _*_, _<_, _≤_}
 use mathlib.Core.Path.{_≡_}
 use mathlib.Core.Bool.{Bool, true, false, not, _&&_}
 use mathlib.Core.List.{List, [], _∷_}
-use lib.ListN.{getD}
-use Rattle.address.specs.Boards.{memoryBytes}
+use mathlib.Core.Logic.{_⊎_}
+use lib.ListN.{length, getD}
+use Rattle.address.specs.Places.{blockOf}
 use Rattle.shown.specs.declared.Shown.{Shown}
-use Rattle.page.specs.Codes.{codeOf, codeAt}
+use Rattle.page.specs.Codes.{codeAt}
+use Rattle.page.specs.HowCodes.{codeOf, Has}
 use Rattle.page.specs.Halves.{isTall, isWide, goesOn, secondHalf, lowerHalves}
 use Rattle.page.specs.declared.stretch.Starts.{Starts}
 
@@ -17,8 +19,12 @@ abbrev pub rightIn : List (List ℕ) → ℕ → Bool
 rightIn cells x = secondHalf isWide (λ i. getD cells i []) x
 
 -- n cells of a stretch are in memory
-abbrev pub Within : Starts → ℕ → Type 0
-Within s n = (s .c + n ≤ memoryBytes) × (s .b + n ≤ memoryBytes) × (s .a + n ≤ memoryBytes)
+abbrev pub Within : List ℕ → Starts → ℕ → Type 0
+Within m s n = (s .c + n ≤ length m) × (s .b + n ≤ length m) × (s .a + n ≤ length m)
+
+-- what is compared as a cell's third byte: the page's block t is its third block, which memory has; or its first, where memory ends before the third
+abbrev pub Compared : List ℕ → ℕ → ℕ → Type 0
+Compared m z t = Has m z 0 × Has m z 1 × (((t ≡ 2) × Has m z 2) ⊎ ((t ≡ 0) × (length m ≤ 1024 * blockOf z 2)))
 
 -- the three bytes of cell i of a stretch
 abbrev pub stretchCode : List ℕ → Starts → ℕ → List ℕ

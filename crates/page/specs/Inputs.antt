@@ -28,9 +28,9 @@ pub data Slices : Type 0 where
   fromRom : ℕ → Slices
   fromMemory : List ℕ → Slices
 
-abbrev pub takenFrom : List ℕ → ℕ → Source → Slices
-takenFrom m c (Rom set) = fromRom set
-takenFrom m c (Block z) = fromMemory (table (keptSlice m c z) 10)
+abbrev pub takenFrom : ℕ → List ℕ → ℕ → Source → Slices
+takenFrom blocks m c (Rom set) = fromRom set
+takenFrom blocks m c (Block z) = fromMemory (table (keptSlice blocks m c z) 10)
 
 -- slice n, once the ROM is there
 abbrev pub sliceByte : List ℕ → ℕ → Slices → ℕ → ℕ
@@ -48,7 +48,7 @@ unfoldable pub cellInput : Shown → List ℕ → ℕ → ℕ → CellInput
 cellInput shown m r x =
     record {
       code = codeAt shown m r x;
-      slices = takenFrom m (characterOf (decoded (codeAt shown m r x))) (cellSource shown (decoded (codeAt shown m r x)));
+      slices = takenFrom (shown .blocks) m (characterOf (decoded (codeAt shown m r x))) (cellSource shown (decoded (codeAt shown m r x)));
       lower = lowerHalf shown m r x;
       right = rightHalf shown m r x;
     }

@@ -1,4 +1,5 @@
 pub mod Codes
+pub mod HowCodes
 pub mod Halves
 pub mod Inputs
 pub mod Marks

@@ -1,2 +1,3 @@
 // The rows that a phase change marks.
+pub mod bare;
 pub mod phase;

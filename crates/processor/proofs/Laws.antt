@@ -9,9 +9,7 @@ use lib.Dec.{eqb}
 use lib.Seq.{getD-set-other}
 use borrow.Author.Tests.{eq-eqb, ne-eqb}
 use Rattle.basics.specs.Bits.{bits, isSet}
-use Rattle.address.specs.Triples.{legal}
 use Rattle.address.specs.declared.triple.Triple.{Triple}
-use Rattle.address.proofs.Places.{legal-x}
 use Rattle.processor.specs.declared.state.Processor.{Processor}
 use Rattle.processor.specs.States.{Chip, chip, registerOf, withRegister, withLx, cleared}
 use Rattle.processor.specs.Pointers.{pointerOf, nextX, incremented, nextPosition, advanced}
@@ -114,9 +112,9 @@ module _ (p : Processor) (v : ℕ) (e : v ≡ registerOf p 7) where
     position-next x = let b : bits 0 6 (registerOf p 7) ≡ 39 → ⊥ = λ q. x (omega arith) in rw (odd, ne-eqb _ _ b, next-more (v - 128) x, e)
 
 -- after the access to memory the pointer is where it was, so its X may be incremented
-module _ (auxiliary : Bool) (p free q : Processor) (f : free ≡ cleared p) (ok : legal (pointerOf auxiliary p) ≡ true) where
+module _ (auxiliary : Bool) (p free q : Processor) (f : free ≡ cleared p) (ok : pointerOf auxiliary p .x < 40) where
   same-x : pointerOf auxiliary q ≡ pointerOf auxiliary free → pointerOf auxiliary q .x < 40
-  same-x e = rw (e ∙ ap (pointerOf auxiliary) f ∙ pointer-cleared auxiliary p) (legal-x _ _ ok)
+  same-x e = rw (e ∙ ap (pointerOf auxiliary) f ∙ pointer-cleared auxiliary p) ok
 
   pub x-after-load : (v : ℕ) → q ≡ withRegister free 1 v → pointerOf auxiliary q .x < 40
   x-after-load v e = same-x (ap (pointerOf auxiliary) e ∙ pointer-registers auxiliary free 1 v (omega arith))

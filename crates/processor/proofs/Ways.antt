@@ -4,18 +4,19 @@ use Prim.Native.Nat.{ℕ, _+_, _*_, _/_, _<_, _≤_}
 use mathlib.Core.Path.{_≡_, refl, sym, ap, _∙_}
 use mathlib.Core.Bool.{Bool, true, false, not, _||_, false≢true}
 use mathlib.Core.List.{List}
+use mathlib.Core.Logic.{⊎-elim}
 use native.Mathlib.Omega.{arith}
-use lib.Dec.{eqb}
+use lib.Dec.{ltb, leb, eqb}
 use lib.ListN.{length, getD, set}
-use borrow.Author.Tests.{eq-eqb, ne-eqb, le-leb, lt-leb, eqb-true, not-false}
+use borrow.Author.Tests.{eq-eqb, ne-eqb, lt-ltb, le-ltb, le-leb, lt-leb, eqb-true, not-false}
 use Rattle.basics.specs.Bits.{bits}
-use Rattle.basics.proofs.Choice.{or-neither}
+use Rattle.basics.proofs.Choice.{lt-or-le, or-neither}
 use Rattle.basics.specs.Choice.{pick}
-use Rattle.address.specs.Boards.{boardBlocks, memoryBytes}
+use Rattle.address.specs.Boards.{bytesOf}
 use Rattle.address.specs.Narrow.{isOdd, attributesAt, nibbleInto}
 use Rattle.address.specs.Places.{placeOf, blockOf, placeAt, blockAt, loaded}
 use Rattle.address.specs.declared.triple.Triple.{Triple}
-use Rattle.address.specs.Triples.{legal}
+use Rattle.address.specs.Triples.{legalIn}
 use Rattle.address.proofs.Laws.{legal-page, legal-block}
 use Rattle.address.proofs.Places.{place-within, place-block}
 use Rattle.shown.specs.declared.Shown.{Shown}
@@ -37,27 +38,30 @@ use Rattle.processor.specs.Access.{Outcome, outcome, checked, phased, tu
 use Rattle.processor.specs.Draws.{drawOutcome, drawn, drawnPage}
 use Rattle.processor.proofs.Laws.{high-bits}
 
--- the head of an access: the memory's length, and the address's high bits
-module _ (memory address : ℕ) where
-  abbrev Refused : Bool
-  Refused = not (eqb memory memoryBytes) || not (eqb (bits 4 4 address) 2)
+pub le-not-lt : (a b : ℕ) → leb b a ≡ not (ltb a b)
+le-not-lt a b = ⊎-elim (λ l. rw (lt-leb b a l, lt-ltb a b l)) (λ l. rw (le-leb b a l, le-ltb a b l)) (lt-or-le a b)
 
-  pub memory-wrong : (memory ≡ memoryBytes → ⊥) → true ≡ Refused
+-- the head of an access: the memory's length, and the address's high bits
+module _ (memory blocks address : ℕ) where
+  abbrev Refused : Bool
+  Refused = not (eqb memory (bytesOf blocks)) || not (eqb (bits 4 4 address) 2)
+
+  pub memory-wrong : (memory ≡ bytesOf blocks → ⊥) → true ≡ Refused
   memory-wrong n = rw (ne-eqb _ _ n)
 
-  pub address-asked : memory ≡ memoryBytes → address < 256 → not (eqb (address / 16) 2) ≡ Refused
+  pub address-asked : memory ≡ bytesOf blocks → address < 256 → not (eqb (address / 16) 2) ≡ Refused
   address-asked e l = rw (eq-eqb _ _ e, high-bits address l)
 
-  pub memory-whole : (b : Bool) → b ≡ Refused → b ≡ false → memory ≡ memoryBytes
-  memory-whole b e f = eqb-true memory memoryBytes (not-false _ (or-neither _ _ (sym e ∙ f)))
+  pub memory-whole : (b : Bool) → b ≡ Refused → b ≡ false → memory ≡ bytesOf blocks
+  memory-whole b e f = eqb-true memory (bytesOf blocks) (not-false _ (or-neither _ _ (sym e ∙ f)))
 
 -- an access: refused, and done
-module _ (address : ℕ) (k : Chip) (done : Outcome) (b : Bool) (learnt : b ≡ Refused (length (k .memory)) address) where
+module _ (address : ℕ) (k : Chip) (done : Outcome) (b : Bool) (learnt : b ≡ Refused (length (k .memory)) (k .processor .blocks) address) where
   pub access-refused :
-      b ≡ true → (answer : Answer) → answer ≡ pick (eqb (length (k .memory)) memoryBytes) WrongAddress WrongMemory →
+      b ≡ true → (answer : Answer) → answer ≡ pick (eqb (length (k .memory)) (bytesOf (k .processor .blocks))) WrongAddress WrongMemory →
       outcome k answer ≡ checked address k done
   unfolding checked
-  access-refused t answer e = ap (outcome k) e ∙ go (eqb (length (k .memory)) memoryBytes) (eqb (bits 4 4 address) 2) (sym learnt ∙ t)
+  access-refused t answer e = ap (outcome k) e ∙ go (eqb (length (k .memory)) (bytesOf (k .processor .blocks))) (eqb (bits 4 4 address) 2) (sym learnt ∙ t)
     where
       go :
           (whole chosen : Bool) → (not whole || not chosen) ≡ true →
@@ -68,7 +72,7 @@ module _ (address : ℕ) (k : Chip) (done : Outcome) (b : Bool) (learnt : b ≡ 
 
   pub access-done : b ≡ false → done ≡ checked address k done
   unfolding checked
-  access-done f = go (eqb (length (k .memory)) memoryBytes) (eqb (bits 4 4 address) 2) (sym learnt ∙ f)
+  access-done f = go (eqb (length (k .memory)) (bytesOf (k .processor .blocks))) (eqb (bits 4 4 address) 2) (sym learnt ∙ f)
     where
       go :
           (whole chosen : Bool) → (not whole || not chosen) ≡ false →
@@ -121,20 +125,22 @@ pub code-place :
 code-place t k here block i eh eb ei = omega (arith, place-within (t .x) (t .y) (blockOf (t .z) k))
 
 pub code-within :
-    (t : Triple) (k here block n : ℕ) → here ≡ placeOf (t .x) (t .y) 0 → block ≡ blockOf (t .z) k → legal t ≡ true → n ≡ memoryBytes → here + 1024 * block < n
-code-within t k here block n eh eb g en = omega (arith, place-block (t .x) (t .y) 0 (legal-page boardBlocks t g) .1, legal-block boardBlocks t g)
+    (blocks : ℕ) (t : Triple) (k here block n : ℕ) → here ≡ placeOf (t .x) (t .y) 0 → block ≡ blockOf (t .z) k →
+    legalIn blocks (blockAt t k) ≡ true → n ≡ bytesOf blocks → here + 1024 * block < n
+code-within blocks t k here block n eh eb g en =
+    omega (arith, place-block (t .x) (t .y) 0 (legal-page blocks (blockAt t k) g) .1, legal-block blocks (blockAt t k) g)
 
 -- a phase change: refused with 1, refused with 9, the present phase, and another
 module _ (n : ℕ) (k : Chip) where
-  pub turn-memory-refused : (length (k .memory) ≡ memoryBytes → ⊥) → outcome k WrongMemory ≡ turned n k
+  pub turn-memory-refused : (length (k .memory) ≡ bytesOf (k .processor .blocks) → ⊥) → outcome k WrongMemory ≡ turned n k
   unfolding turned
   turn-memory-refused e = rw (ne-eqb _ _ e)
 
-  pub phase-refused : length (k .memory) ≡ memoryBytes → 1 < n → outcome k WrongPhase ≡ turned n k
+  pub phase-refused : length (k .memory) ≡ bytesOf (k .processor .blocks) → 1 < n → outcome k WrongPhase ≡ turned n k
   unfolding turned
   phase-refused e l = rw (eq-eqb _ _ e, lt-leb _ _ l)
 
-  module _ (e : length (k .memory) ≡ memoryBytes) (l : n ≤ 1) where
+  module _ (e : length (k .memory) ≡ bytesOf (k .processor .blocks)) (l : n ≤ 1) where
     pub phase-same : k .processor .phase ≡ n → outcome k (Accepted 0) ≡ turned n k
     unfolding turned phased
     phase-same s = rw (eq-eqb _ _ e, le-leb _ _ l, eq-eqb _ _ s)
@@ -151,11 +157,11 @@ module _ (n : ℕ) (k : Chip) where
 
 -- a draw: refused with 1, 5, 7, 6 and 8, and done; n is the length that the mode asks for
 module _ (p : Processor) (m rom picture : List ℕ) where
-  pub draw-memory-refused : (length m ≡ memoryBytes → ⊥) → drawOutcome p picture drawing.WrongMemory ≡ drawn p m rom picture
+  pub draw-memory-refused : (length m ≡ bytesOf (p .blocks) → ⊥) → drawOutcome p picture drawing.WrongMemory ≡ drawn p m rom picture
   unfolding drawn
   draw-memory-refused e = rw (ne-eqb _ _ e)
 
-  module _ (em : length m ≡ memoryBytes) where
+  module _ (em : length m ≡ bytesOf (p .blocks)) where
     pub rom-refused : (length rom ≡ romBytes → ⊥) → drawOutcome p picture drawing.WrongRom ≡ drawn p m rom picture
     unfolding drawn
     rom-refused e = rw (eq-eqb _ _ em, ne-eqb _ _ e)

@@ -1,17 +1,18 @@
 -- Register accesses and the phase change: for each what it leaves and what it answers.
 -- Assumes nothing.
 use Prim.Native.Nat.{ℕ}
-use mathlib.Core.Bool.{Bool, true, false, not}
-use mathlib.Core.List.{List}
+use mathlib.Core.Bool.{Bool, true, false}
+use mathlib.Core.List.{List, []}
 use lib.Dec.{leb, eqb}
 use lib.ListN.{length}
 use Rattle.basics.specs.Choice.{pick}
 use Rattle.basics.specs.Bits.{bits, isSet}
-use Rattle.address.specs.Boards.{memoryBytes}
-use Rattle.address.specs.Triples.{legal}
+use Rattle.address.specs.Addresses.{isIllegal, isNotFitted, byteAddresses, codeAddresses, narrowAddresses, someAddress}
+use Rattle.address.specs.Boards.{bytesOf}
+use Rattle.address.specs.declared.answer.Address.{Address}
 use Rattle.command.specs.declared.Command as command
 use Rattle.command.specs.declared.answer.Answer.{Answer}
-use Rattle.command.specs.declared.answer.Answer.the-variants.{Accepted, WrongMemory, WrongAddress, NotListed, BadPointer, WrongPhase}
+use Rattle.command.specs.declared.answer.Answer.the-variants.{Accepted, WrongMemory, WrongAddress, NotListed, BadPointer, WrongPhase, NotFitted}
 use Rattle.command.specs.Commands.{commandOf}
 use Rattle.reading.specs.Marks.{phaseMarks}
 use Rattle.processor.specs.declared.state.Processor.{Processor}
@@ -40,14 +41,22 @@ isUnlisted (command.the-variants.Oct reads auxiliary increments) = false
 isUnlisted (command.the-variants.Krl reads increments) = false
 isUnlisted command.the-variants.NotListed = true
 
+-- the addresses of its bytes, read forms too. (IND and NOP have none.)
+abbrev pub addressesOf : command.Command → Processor → List Address
+addressesOf command.the-variants.Nop p = []
+addressesOf (command.the-variants.Ind r reads) p = []
+addressesOf (command.the-variants.Krf reads increments) p = codeAddresses (p .blocks) (pointerOf false p)
+addressesOf (command.the-variants.Oct reads auxiliary increments) p = byteAddresses (p .blocks) (pointerOf auxiliary p)
+addressesOf (command.the-variants.Krl reads increments) p = narrowAddresses (p .blocks) (pointerOf false p)
+addressesOf command.the-variants.NotListed p = []
+
 -- 4: its pointer has X above 39 or Y from 1 to 7
 abbrev pub isAstray : command.Command → Processor → Bool
-isAstray command.the-variants.Nop p = false
-isAstray (command.the-variants.Ind r reads) p = false
-isAstray (command.the-variants.Krf reads increments) p = not (legal (pointerOf false p))
-isAstray (command.the-variants.Oct reads auxiliary increments) p = not (legal (pointerOf auxiliary p))
-isAstray (command.the-variants.Krl reads increments) p = not (legal (pointerOf false p))
-isAstray command.the-variants.NotListed p = false
+isAstray c p = someAddress isIllegal (addressesOf c p)
+
+-- 11: any of its bytes lies in a block not fitted
+abbrev pub isUnfitted : command.Command → Processor → Bool
+isUnfitted c p = someAddress isNotFitted (addressesOf c p)
 
 -- R1 to or from a register
 unfoldable pub indirect : ℕ → Bool → Processor → Processor
@@ -63,20 +72,26 @@ effect (command.the-variants.Oct reads auxiliary increments) k = oct reads auxil
 effect (command.the-variants.Krl reads increments) k = krl reads increments k
 effect command.the-variants.NotListed k = k
 
--- a command runs, after the access that gave the value v. Access is checked .. 3, 4
+-- a command runs, after the access that gave the value v. Access is checked .. 3, 4, 11; 11 leaves what 4 leaves
 unfoldable pub ran : command.Command → ℕ → Chip → Outcome
 ran c v k =
     pick (isUnlisted c) (outcome k (NotListed v))
-    (pick (isAstray c (k .processor)) (outcome k (BadPointer v)) (outcome (effect c k) (Accepted v)))
+    (pick (isAstray c (k .processor)) (outcome k (BadPointer v))
+    (pick (isUnfitted c (k .processor)) (outcome k (NotFitted v))
+    (outcome (effect c k) (Accepted v))))
 
 -- bit 3 of the address asks for execution
 unfoldable pub executed : ℕ → ℕ → Chip → Outcome
 executed address v k = pick (isSet 3 address) (ran (commandOf (registerOf (k .processor) 0)) v k) (outcome k (Accepted v))
 
+-- 1 compares with the size of the board
+abbrev pub isWhole : Chip → Bool
+isWhole k = eqb (length (k .memory)) (bytesOf (k .processor .blocks))
+
 -- Access is checked 1, 2 before it takes place
 unfoldable pub checked : ℕ → Chip → Outcome → Outcome
 checked address k done =
-    pick (eqb (length (k .memory)) memoryBytes) (pick (eqb (bits 4 4 address) 2) done (outcome k WrongAddress)) (outcome k WrongMemory)
+    pick (isWhole k) (pick (eqb (bits 4 4 address) 2) done (outcome k WrongAddress)) (outcome k WrongMemory)
 
 -- The access comes first, then the command runs. The address's low three bits name R0 to R7
 unfoldable pub written : ℕ → ℕ → Chip → Outcome
@@ -96,6 +111,6 @@ phased n k =
 -- phase is checked 1, 9
 unfoldable pub turned : ℕ → Chip → Outcome
 turned n k =
-    pick (eqb (length (k .memory)) memoryBytes)
+    pick (isWhole k)
     (pick (leb n 1) (outcome (phased n k) (Accepted 0)) (outcome k WrongPhase))
     (outcome k WrongMemory)

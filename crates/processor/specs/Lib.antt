@@ -1,4 +1,5 @@
 pub mod States
+pub mod PowerUps
 pub mod Pointers
 pub mod Bytes
 pub mod Access

@@ -6,6 +6,7 @@ use mathlib.Core.List.{List, [], _∷_}
 use lib.Dec.{eqb}
 use lib.ListN.{getD, set}
 use Rattle.basics.specs.Choice.{pick, oneIf}
+use Rattle.address.specs.Boards.{fullBoard}
 use Rattle.shown.specs.declared.Shown.{Shown}
 use Rattle.shown.specs.Modes.{isEighty}
 use Rattle.page.specs.Marks.{allMarked}
@@ -15,16 +16,17 @@ use Rattle.processor.specs.declared.state.Processor.{Processor}
 abbrev pub registerOf : Processor → ℕ → ℕ
 registerOf p n = getD (p .registers) n 0
 
--- what a page is drawn by: the indirect registers by r (TGS 1, MAT 2, PAT 3, DOR 4, ROR 7), and the phase
-abbrev pub shownBy : List ℕ → ℕ → Shown
-shownBy i phase = record { tgs = getD i 1 0; mat = getD i 2 0; pat = getD i 3 0; dor = getD i 4 0; ror = getD i 7 0; phase = phase }
+-- what a page is drawn by: the indirect registers by r (TGS 1, MAT 2, PAT 3, DOR 4, ROR 7), the phase, and the board
+abbrev pub shownBy : List ℕ → ℕ → ℕ → Shown
+shownBy i phase blocks =
+    record { tgs = getD i 1 0; mat = getD i 2 0; pat = getD i 3 0; dor = getD i 4 0; ror = getD i 7 0; phase = phase; blocks = blocks }
 
 abbrev pub shownOf : Processor → Shown
-shownOf p = shownBy (p .indirect) (p .phase)
+shownOf p = shownBy (p .indirect) (p .phase) (p .blocks)
 
--- Power-up: all registers and both LX bits 0, command 91 hex, phase 0, every row marked
-unfoldable pub powerUp : Processor
-powerUp =
+-- Power-up of a board of so many blocks: all registers and both LX bits 0, command 91 hex, phase 0, every row marked
+unfoldable pub poweredUp : ℕ → Processor
+poweredUp blocks =
     record {
       registers = 0x91 ∷ 0 ∷ 0 ∷ 0 ∷ 0 ∷ 0 ∷ 0 ∷ 0 ∷ [];
       indirect = 0 ∷ 0 ∷ 0 ∷ 0 ∷ 0 ∷ 0 ∷ 0 ∷ 0 ∷ [];
@@ -32,23 +34,28 @@ powerUp =
       lxa = false;
       phase = 0;
       marks = allMarked;
+      blocks = blocks;
     }
+
+-- of which nothing else is said: 16 blocks
+abbrev pub powerUp : Processor
+powerUp = poweredUp fullBoard
 
 -- the state with one part other
 abbrev pub withRegisters : Processor → List ℕ → Processor
-withRegisters p l = record { registers = l; indirect = p .indirect; lxm = p .lxm; lxa = p .lxa; phase = p .phase; marks = p .marks }
+withRegisters p l = record { registers = l; indirect = p .indirect; lxm = p .lxm; lxa = p .lxa; phase = p .phase; marks = p .marks; blocks = p .blocks }
 
 abbrev pub withLx : Processor → Bool → Bool → Processor
-withLx p m a = record { registers = p .registers; indirect = p .indirect; lxm = m; lxa = a; phase = p .phase; marks = p .marks }
+withLx p m a = record { registers = p .registers; indirect = p .indirect; lxm = m; lxa = a; phase = p .phase; marks = p .marks; blocks = p .blocks }
 
 abbrev pub withMarks : Processor → List Bool → Processor
-withMarks p l = record { registers = p .registers; indirect = p .indirect; lxm = p .lxm; lxa = p .lxa; phase = p .phase; marks = l }
+withMarks p l = record { registers = p .registers; indirect = p .indirect; lxm = p .lxm; lxa = p .lxa; phase = p .phase; marks = l; blocks = p .blocks }
 
 abbrev pub withIndirect : Processor → List ℕ → List Bool → Processor
-withIndirect p i l = record { registers = p .registers; indirect = i; lxm = p .lxm; lxa = p .lxa; phase = p .phase; marks = l }
+withIndirect p i l = record { registers = p .registers; indirect = i; lxm = p .lxm; lxa = p .lxa; phase = p .phase; marks = l; blocks = p .blocks }
 
 abbrev pub withPhase : Processor → ℕ → List Bool → Processor
-withPhase p n l = record { registers = p .registers; indirect = p .indirect; lxm = p .lxm; lxa = p .lxa; phase = n; marks = l }
+withPhase p n l = record { registers = p .registers; indirect = p .indirect; lxm = p .lxm; lxa = p .lxa; phase = n; marks = l; blocks = p .blocks }
 
 -- register n written
 abbrev pub withRegister : Processor → ℕ → ℕ → Processor

@@ -4,22 +4,22 @@ ghost use mathlib.Core.Bool.{not, _||_};
 ghost use lib.Dec.{eqb};
 ghost use Rattle.basics.specs.Bits.{bits};
 ghost use Rattle.basics.specs.Choice.{pick};
-ghost use Rattle.address.specs.Boards.{memoryBytes};
+ghost use Rattle.address.specs.Boards.{bytesOf};
 ghost use Rattle.command.specs.declared.answer.Answer.the-variants.{WrongMemory, WrongAddress};
 ghost use Rattle.processor.specs.States.{chip};
 ghost use Rattle.processor.specs.Access.{outcomeOf, written, readOut, turned};
 use crate::execute::Answered;
 use crate::execute::execute;
 use crate::state::Processor;
-use address::board::MEMORY_BYTES;
+use address::board::bytes_of;
 use command::answer::Answer;
 use phases::phase::phase_marks;
 
 // An access is refused by 1 or 2, before it takes place.
-fn is_refused(memory: usize, address: u8) -> bool
-    ensures { λ r. ⌜ r ≡ (not (eqb memory memoryBytes) || not (eqb (bits 4 4 address) 2)) ⌝ }
+fn is_refused(memory: usize, blocks: u8, address: u8) -> bool
+    ensures { λ r. ⌜ r ≡ (not (eqb memory (bytesOf blocks)) || not (eqb (bits 4 4 address) 2)) ⌝ }
 {
-    if memory != MEMORY_BYTES {
+    if memory != bytes_of(blocks) {
         return true;
     }
     address / 16 != 2
@@ -27,9 +27,9 @@ fn is_refused(memory: usize, address: u8) -> bool
 
 // Which of the two, in their order. The state is handed back as it was.
 fn refused(p: Processor, memory: usize) -> Answered
-    ensures { λ r. ⌜ (r .processor ≡ p) × (r .answer ≡ pick (eqb memory memoryBytes) WrongAddress WrongMemory) ⌝ }
+    ensures { λ r. ⌜ (r .processor ≡ p) × (r .answer ≡ pick (eqb memory (bytesOf (p .blocks))) WrongAddress WrongMemory) ⌝ }
 {
-    if memory != MEMORY_BYTES {
+    if memory != bytes_of(p.blocks) {
         return Answered {
             processor: p,
             answer: Answer::WrongMemory,
@@ -46,7 +46,7 @@ impl Processor {
     pub fn write(mut self, memory: &mut [u8], address: u8, value: u8) -> Answered
         ensures { λ r. ⌜ outcomeOf r (now (memory .exit)) ≡ written address value (chip self (now (memory .entry))) ⌝ }
     {
-        if is_refused(memory.len(), address) {
+        if is_refused(memory.len(), self.blocks, address) {
             return refused(self, memory.len());
         }
         let next = self.with_register(address, value);
@@ -57,7 +57,7 @@ impl Processor {
     pub fn read(mut self, memory: &mut [u8], address: u8) -> Answered
         ensures { λ r. ⌜ outcomeOf r (now (memory .exit)) ≡ readOut address (chip self (now (memory .entry))) ⌝ }
     {
-        if is_refused(memory.len(), address) {
+        if is_refused(memory.len(), self.blocks, address) {
             return refused(self, memory.len());
         }
         let value = self.register(address);
@@ -68,7 +68,7 @@ impl Processor {
     pub fn turn(mut self, memory: &[u8], phase: u8) -> Answered
         ensures { λ r. ⌜ outcomeOf r (now (memory .entry)) ≡ turned phase (chip self (now (memory .entry))) ⌝ }
     {
-        if memory.len() != MEMORY_BYTES {
+        if memory.len() != bytes_of(self.blocks) {
             return Answered {
                 processor: self,
                 answer: Answer::WrongMemory,

@@ -1,9 +1,10 @@
-// Bytes of private memory through the pointers: OCT and KRF at a legal pointer.
+// Bytes of private memory through the pointers: OCT and KRF at a pointer whose bytes are legal and fitted.
 ghost use mathlib.Core.Path.{_≡_};
 ghost use mathlib.Core.Bool.{true, false};
 ghost use lib.ListN.{length};
-ghost use Rattle.address.specs.Boards.{memoryBytes};
-ghost use Rattle.address.specs.Triples.{legal};
+ghost use Rattle.address.specs.Boards.{bytesOf};
+ghost use Rattle.address.specs.Places.{blockAt};
+ghost use Rattle.address.specs.Triples.{legalIn};
 ghost use Rattle.processor.specs.States.{chip};
 ghost use Rattle.processor.specs.Pointers.{pointerOf};
 ghost use Rattle.processor.specs.Bytes.{stored};
@@ -21,7 +22,7 @@ use marking::store::store_marks;
 
 // A store marks by the lists just before it.
 pub fn store(mut p: Processor, memory: &mut [u8], at: Triple, value: u8) -> Processor
-    requires { ⌜ (length (now memory) ≡ memoryBytes) × (legal at ≡ true) ⌝ }
+    requires { ⌜ (length (now memory) ≡ bytesOf (p .blocks)) × (legalIn (p .blocks) at ≡ true) ⌝ }
     ensures { λ r. ⌜ chip r (now (memory .exit)) ≡ stored at value (chip p (now (memory .entry))) ⌝ }
 {
     let before = p.marks;
@@ -40,13 +41,13 @@ pub fn oct(
     auxiliary: bool,
     increments: bool,
 ) -> Processor
-    requires { ⌜ (length (now memory) ≡ memoryBytes) × (legal (pointerOf auxiliary p) ≡ true) ⌝ }
+    requires { ⌜ (length (now memory) ≡ bytesOf (p .blocks)) × (legalIn (p .blocks) (pointerOf auxiliary p) ≡ true) ⌝ }
     ensures { λ r. ⌜ chip r (now (memory .exit)) ≡ Rattle.processor.specs.Bytes.oct reads auxiliary increments (chip p (now (memory .entry))) ⌝ }
 {
     let at = pointer(p, auxiliary);
     let free = p.cleared();
     if reads {
-        let value = load(memory, at);
+        let value = load(memory, p.blocks, at);
         return increment_if(free.with_register(1, value), increments, auxiliary);
     }
     let r1 = p.registers[1];
@@ -56,12 +57,12 @@ pub fn oct(
 
 // R1, R2, R3 from the C, B, A bytes.
 fn code_read(p: Processor, memory: &[u8], at: Triple) -> Processor
-    requires { ⌜ (length (now memory) ≡ memoryBytes) × (legal at ≡ true) ⌝ }
+    requires { ⌜ (length (now memory) ≡ bytesOf (p .blocks)) × (legalIn (p .blocks) (blockAt at 0) ≡ true) × (legalIn (p .blocks) (blockAt at 1) ≡ true) × (legalIn (p .blocks) (blockAt at 2) ≡ true) ⌝ }
     ensures { λ r. ⌜ r ≡ Rattle.processor.specs.Bytes.codeRead at p (now (memory .entry)) ⌝ }
 {
-    let c = load(memory, block_at(at, 0));
-    let b = load(memory, block_at(at, 1));
-    let a = load(memory, block_at(at, 2));
+    let c = load(memory, p.blocks, block_at(at, 0));
+    let b = load(memory, p.blocks, block_at(at, 1));
+    let a = load(memory, p.blocks, block_at(at, 2));
     p.with_register(1, c)
         .with_register(2, b)
         .with_register(3, a)
@@ -70,7 +71,7 @@ fn code_read(p: Processor, memory: &[u8], at: Triple) -> Processor
 // R1, R2, R3 to the C, B, A bytes, in that order. Their places differ in the block alone, and what the three stores mark is asked at once,
 // before the first.
 fn code_stored(mut p: Processor, memory: &mut [u8], at: Triple) -> Processor
-    requires { ⌜ (length (now memory) ≡ memoryBytes) × (legal at ≡ true) ⌝ }
+    requires { ⌜ (length (now memory) ≡ bytesOf (p .blocks)) × (legalIn (p .blocks) (blockAt at 0) ≡ true) × (legalIn (p .blocks) (blockAt at 1) ≡ true) × (legalIn (p .blocks) (blockAt at 2) ≡ true) ⌝ }
     ensures { λ r. ⌜ chip r (now (memory .exit)) ≡ Rattle.processor.specs.Bytes.codeStored at (chip p (now (memory .entry))) ⌝ }
 {
     let c = p.registers[1];
@@ -88,7 +89,7 @@ fn code_stored(mut p: Processor, memory: &mut [u8], at: Triple) -> Processor
 
 // KRF: three code bytes at the main pointer.
 pub fn krf(p: Processor, memory: &mut [u8], reads: bool, increments: bool) -> Processor
-    requires { ⌜ (length (now memory) ≡ memoryBytes) × (legal (pointerOf false p) ≡ true) ⌝ }
+    requires { ⌜ (length (now memory) ≡ bytesOf (p .blocks)) × (legalIn (p .blocks) (blockAt (pointerOf false p) 0) ≡ true) × (legalIn (p .blocks) (blockAt (pointerOf false p) 1) ≡ true) × (legalIn (p .blocks) (blockAt (pointerOf false p) 2) ≡ true) ⌝ }
     ensures { λ r. ⌜ chip r (now (memory .exit)) ≡ Rattle.processor.specs.Bytes.krf reads increments (chip p (now (memory .entry))) ⌝ }
 {
     let at = pointer(p, false);

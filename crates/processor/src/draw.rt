@@ -2,7 +2,7 @@
 ghost use mathlib.Core.Path.{_≡_};
 ghost use Rattle.processor.specs.Draws.{drawOutcomeOf, drawn};
 use crate::state::Processor;
-use address::board::MEMORY_BYTES;
+use address::board::bytes_of;
 use command::answer::Drawing;
 use picture::redraw::redraw;
 use shown::length::ROM_BYTES;
@@ -28,7 +28,7 @@ impl Processor {
     pub fn draw(mut self, memory: &[u8], rom: &[u8], picture: &mut [u8]) -> Drawn
         ensures { λ r. ⌜ drawOutcomeOf r (now (picture .exit)) ≡ drawn self (now (memory .entry)) (now (rom .entry)) (now (picture .entry)) ⌝ }
     {
-        if memory.len() != MEMORY_BYTES {
+        if memory.len() != bytes_of(self.blocks) {
             return refused(self, Drawing::WrongMemory);
         }
         if rom.len() != ROM_BYTES {

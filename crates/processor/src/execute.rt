@@ -3,15 +3,17 @@ ghost use mathlib.Core.Path.{_≡_};
 ghost use mathlib.Core.Bool.{false};
 ghost use Prim.Native.Nat.{_%_};
 ghost use lib.ListN.{length};
-ghost use Rattle.address.specs.Boards.{memoryBytes};
+ghost use Rattle.address.specs.Boards.{bytesOf};
 ghost use Rattle.command.specs.Commands.{Asked};
 ghost use Rattle.processor.specs.States.{chip};
-ghost use Rattle.processor.specs.Access.{outcomeOf, isUnlisted, isAstray, ran, executed};
+ghost use Rattle.processor.specs.Access.{outcomeOf, isUnlisted, isAstray, isUnfitted, ran, executed};
 use crate::byte::krf;
 use crate::byte::oct;
 use crate::pointer::pointer;
 use crate::position::krl;
 use crate::state::Processor;
+use address::fitted::is_code_fitted;
+use address::fitted::is_narrow_fitted;
 use address::triple::is_legal;
 use command::Command;
 use command::answer::Answer;
@@ -59,9 +61,24 @@ fn is_astray(command: Command, p: Processor) -> bool
     }
 }
 
+// One of its bytes is not fitted, at a pointer that is legal.
+fn is_unfitted(command: Command, p: Processor) -> bool
+    requires { ⌜ isAstray command p ≡ false ⌝ }
+    ensures { λ r. ⌜ r ≡ isUnfitted command p ⌝ }
+{
+    match command {
+        Command::Nop => false,
+        Command::Ind(_, _) => false,
+        Command::Krf(_, _) => !is_code_fitted(p.blocks, pointer(p, false)),
+        Command::Oct(_, auxiliary, _) => p.blocks <= pointer(p, auxiliary).z,
+        Command::Krl(_, _) => !is_narrow_fitted(p.blocks, pointer(p, false)),
+        Command::NotListed => false,
+    }
+}
+
 // What a command does where nothing refuses it.
 fn effect(p: Processor, memory: &mut [u8], command: Command) -> Processor
-    requires { ⌜ (length (now memory) ≡ memoryBytes) × Asked command × (isAstray command p ≡ false) ⌝ }
+    requires { ⌜ (length (now memory) ≡ bytesOf (p .blocks)) × Asked command × (isAstray command p ≡ false) × (isUnfitted command p ≡ false) ⌝ }
     ensures { λ r. ⌜ chip r (now (memory .exit)) ≡ Rattle.processor.specs.Access.effect command (chip p (now (memory .entry))) ⌝ }
 {
     match command {
@@ -78,7 +95,7 @@ fn effect(p: Processor, memory: &mut [u8], command: Command) -> Processor
 
 // A command, after the access that gave the value. What is refused is handed back as it was.
 fn run_command(p: Processor, memory: &mut [u8], command: Command, value: u8) -> Answered
-    requires { ⌜ (length (now memory) ≡ memoryBytes) × Asked command ⌝ }
+    requires { ⌜ (length (now memory) ≡ bytesOf (p .blocks)) × Asked command ⌝ }
     ensures { λ r. ⌜ outcomeOf r (now (memory .exit)) ≡ ran command value (chip p (now (memory .entry))) ⌝ }
 {
     if is_unlisted(command) {
@@ -93,6 +110,12 @@ fn run_command(p: Processor, memory: &mut [u8], command: Command, value: u8) -> 
             answer: Answer::BadPointer(value),
         };
     }
+    if is_unfitted(command, p) {
+        return Answered {
+            processor: p,
+            answer: Answer::NotFitted(value),
+        };
+    }
     Answered {
         processor: effect(p, memory, command),
         answer: Answer::Accepted(value),
@@ -101,7 +124,7 @@ fn run_command(p: Processor, memory: &mut [u8], command: Command, value: u8) -> 
 
 // The command, if bit 3 of the address asks for it.
 pub fn execute(p: Processor, memory: &mut [u8], address: u8, value: u8) -> Answered
-    requires { ⌜ length (now memory) ≡ memoryBytes ⌝ }
+    requires { ⌜ length (now memory) ≡ bytesOf (p .blocks) ⌝ }
     ensures { λ r. ⌜ outcomeOf r (now (memory .exit)) ≡ executed address value (chip p (now (memory .entry))) ⌝ }
 {
     if address / 8 % 2 == 1 {

@@ -1,8 +1,9 @@
-// The processor: registers and commands, the phase and the draw. Its state is handed on as a value.
+// The processor: power-up, registers and commands, the phase and the draw. Its state is handed on as a value.
 pub mod access;
 pub mod byte;
 pub mod draw;
 pub mod execute;
 pub mod pointer;
 pub mod position;
+pub mod power;
 pub mod state;

@@ -2,8 +2,9 @@
 ghost use mathlib.Core.Path.{_≡_};
 ghost use mathlib.Core.Bool.{true, false};
 ghost use lib.ListN.{length};
-ghost use Rattle.address.specs.Boards.{memoryBytes};
-ghost use Rattle.address.specs.Triples.{legal};
+ghost use Rattle.address.specs.Boards.{bytesOf};
+ghost use Rattle.address.specs.Narrow.{attributesAt};
+ghost use Rattle.address.specs.Triples.{legalIn};
 ghost use Rattle.processor.specs.States.{chip};
 ghost use Rattle.processor.specs.Pointers.{pointerOf};
 ghost use Rattle.processor.specs.Bytes.{narrowRead, narrowStored};
@@ -21,24 +22,24 @@ use marking::store::narrow_marks;
 
 // R1 from the C byte, R3 from the position's half of the attributes.
 fn narrow_read(p: Processor, memory: &[u8], at: Triple) -> Processor
-    requires { ⌜ (length (now memory) ≡ memoryBytes) × (legal at ≡ true) ⌝ }
+    requires { ⌜ (length (now memory) ≡ bytesOf (p .blocks)) × (legalIn (p .blocks) at ≡ true) × (legalIn (p .blocks) (attributesAt at) ≡ true) ⌝ }
     ensures { λ r. ⌜ r ≡ narrowRead at p (now (memory .entry)) ⌝ }
 {
-    let c = load(memory, at);
-    let attributes = load(memory, attributes_at(at));
+    let c = load(memory, p.blocks, at);
+    let attributes = load(memory, p.blocks, attributes_at(at));
     p.with_register(1, c)
         .with_register(3, both_halves(is_odd(at), attributes))
 }
 
 // R1 to the C byte, then R3 to the position's half of the attributes. What the two stores mark is asked at once, before the first.
 fn narrow_stored(mut p: Processor, memory: &mut [u8], at: Triple) -> Processor
-    requires { ⌜ (length (now memory) ≡ memoryBytes) × (legal at ≡ true) ⌝ }
+    requires { ⌜ (length (now memory) ≡ bytesOf (p .blocks)) × (legalIn (p .blocks) at ≡ true) × (legalIn (p .blocks) (attributesAt at) ≡ true) ⌝ }
     ensures { λ r. ⌜ chip r (now (memory .exit)) ≡ narrowStored at (chip p (now (memory .entry))) ⌝ }
 {
     let c = p.registers[1];
     let r3 = p.registers[3];
     let beside = attributes_at(at);
-    let a = nibble_into(is_odd(at), load(memory, beside), r3);
+    let a = nibble_into(is_odd(at), load(memory, p.blocks, beside), r3);
     let before = p.marks;
     let after = narrow_marks(before, p.shown(), memory, at, c, a);
     let here = place(at);
@@ -51,7 +52,7 @@ fn narrow_stored(mut p: Processor, memory: &mut [u8], at: Triple) -> Processor
 
 // KRL: a C byte and its attributes at the main pointer.
 pub fn krl(p: Processor, memory: &mut [u8], reads: bool, increments: bool) -> Processor
-    requires { ⌜ (length (now memory) ≡ memoryBytes) × (legal (pointerOf false p) ≡ true) ⌝ }
+    requires { ⌜ (length (now memory) ≡ bytesOf (p .blocks)) × (legalIn (p .blocks) (pointerOf false p) ≡ true) × (legalIn (p .blocks) (attributesAt (pointerOf false p)) ≡ true) ⌝ }
     ensures { λ r. ⌜ chip r (now (memory .exit)) ≡ Rattle.processor.specs.Bytes.krl reads increments (chip p (now (memory .entry))) ⌝ }
 {
     let at = pointer(p, false);

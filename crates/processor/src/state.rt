@@ -1,7 +1,7 @@
 // The processor's state, and its registers.
 ghost use mathlib.Core.Path.{_≡_};
 ghost use Prim.Native.Nat.{_%_};
-ghost use Rattle.processor.specs.States.{powerUp, statusOf, withRegister, registerRead, cleared, indirectRead, indirectWritten, shownOf};
+ghost use Rattle.processor.specs.States.{statusOf, withRegister, registerRead, cleared, indirectRead, indirectWritten, shownOf};
 use shown::Shown;
 
 pub struct Processor {
@@ -13,22 +13,11 @@ pub struct Processor {
     pub lxa: bool,
     pub phase: u8,
     pub marks: [bool; 25],
+    // How many blocks its private memory has.
+    pub blocks: u8,
 }
 
 impl Processor {
-    pub fn power_up() -> Self
-        ensures { λ r. ⌜ r ≡ powerUp ⌝ }
-    {
-        Processor {
-            registers: [0x91, 0, 0, 0, 0, 0, 0, 0],
-            indirect: [0; 8],
-            lxm: false,
-            lxa: false,
-            phase: 0,
-            marks: [true; 25],
-        }
-    }
-
     // A register is named by a number modulo 8, as by the low three bits of an address.
     pub fn with_register(mut self, n: u8, value: u8) -> Self
         ensures { λ r. ⌜ r ≡ withRegister self (n % 8) value ⌝ }
@@ -114,6 +103,7 @@ impl Processor {
             dor: self.indirect[4],
             ror: self.indirect[7],
             phase: self.phase,
+            blocks: self.blocks,
         }
     }
 }

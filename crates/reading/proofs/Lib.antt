@@ -1,3 +1,4 @@
 pub mod Marking
 pub mod Stable
 pub mod Several
+pub mod Fitted

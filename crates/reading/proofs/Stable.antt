@@ -7,40 +7,42 @@ use mathlib.Core.Bool.{Bool, true, false, not, _&&_, _||_, false≢true}
 use mathlib.Core.List.{List}
 use mathlib.Core.Logic.{⊎-elim}
 use borrow.Author.Tests.{eq-eqb}
-use lib.Dec.{eqb}
 use lib.ListN.{set}
 use lib.Seq.{getD-set-other, set-getD, set-set}
 use Rattle.basics.proofs.Choice.{bool-cases, and-both, or-left, or-right}
 use Rattle.basics.proofs.Below.{any-hit, any-same}
+use Rattle.address.specs.Addresses.{byteFrom, isAt}
 use Rattle.address.specs.Places.{byteAt}
+use Rattle.address.specs.declared.answer.Address.{Address}
+use Rattle.address.specs.declared.answer.Address.the-variants.{Illegal, NotFitted, Fitted}
 use Rattle.shown.specs.declared.Shown.{Shown}
 use Rattle.shown.specs.Modes.{isEighty}
-use Rattle.page.specs.Codes.{codeOf, codeAt}
+use Rattle.page.specs.Codes.{codeAddress, codeAt}
 use Rattle.page.specs.Halves.{isTall}
-use Rattle.reading.specs.Lists.{codePlace, codeHolds, rowHolds, cellHolds, slicesHold, hasTall, aboveHolds, onList}
+use Rattle.reading.specs.Lists.{codeHolds, rowHolds, cellHolds, slicesHold, hasTall, aboveHolds, onList}
 use Rattle.reading.specs.Agreeing.{Agree, AgreeOnList}
 
-pub eqb-self : (p : ℕ) → eqb p p ≡ true
-eqb-self p = eq-eqb p p refl
+-- what is taken at an address whose place passes is the same in two memories that agree on what passes
+pub taken-same : (f : ℕ → Bool) (m n : List ℕ) → Agree f m n → (a : Address) → ((p : ℕ) → isAt p a ≡ true → f p ≡ true) → byteFrom m a ≡ byteFrom n a
+taken-same f m n agree Illegal h = refl
+taken-same f m n agree NotFitted h = refl
+taken-same f m n agree (Fitted p) h = agree p (h p (eq-eqb p p refl))
 
--- a row holds the three bytes of each of its cells
-module _ (shown : Shown) (r x : ℕ) (l : x < 40) where
-  holds-0 : rowHolds shown (codePlace shown r x 0) r ≡ true
+-- a row holds the three bytes of each of its cells that are fitted
+module _ (shown : Shown) (r x p : ℕ) (l : x < 40) where
+  holds-0 : isAt p (codeAddress shown r x 0) ≡ true → rowHolds shown p r ≡ true
   unfolding rowHolds codeHolds
-  holds-0 = any-hit (codeHolds shown (codePlace shown r x 0) r) 40 x l (or-left _ _ (eqb-self (codePlace shown r x 0)))
+  holds-0 e = any-hit (codeHolds shown p r) 40 x l (or-left _ _ e)
 
-  holds-1 : rowHolds shown (codePlace shown r x 1) r ≡ true
+  holds-1 : isAt p (codeAddress shown r x 1) ≡ true → rowHolds shown p r ≡ true
   unfolding rowHolds codeHolds
-  holds-1 =
-      any-hit (codeHolds shown (codePlace shown r x 1) r) 40 x l
-      (or-right (eqb (codePlace shown r x 1) (codePlace shown r x 0)) _ (or-left _ _ (eqb-self (codePlace shown r x 1))))
+  holds-1 e = any-hit (codeHolds shown p r) 40 x l (or-right (isAt p (codeAddress shown r x 0)) _ (or-left _ _ e))
 
-  holds-2 : rowHolds shown (codePlace shown r x 2) r ≡ true
+  holds-2 : isAt p (codeAddress shown r x 2) ≡ true → rowHolds shown p r ≡ true
   unfolding rowHolds codeHolds
-  holds-2 =
-      any-hit (codeHolds shown (codePlace shown r x 2) r) 40 x l
-      (or-right (eqb (codePlace shown r x 2) (codePlace shown r x 0)) _
-      (or-right (eqb (codePlace shown r x 2) (codePlace shown r x 1)) _ (eqb-self (codePlace shown r x 2))))
+  holds-2 e =
+      any-hit (codeHolds shown p r) 40 x l
+      (or-right (isAt p (codeAddress shown r x 0)) _ (or-right (isAt p (codeAddress shown r x 1)) _ e))
 
 module _ (shown : Shown) (m n : List ℕ) where
   abbrev pub Own : ℕ → Type 0
@@ -53,8 +55,13 @@ module _ (shown : Shown) (m n : List ℕ) where
   Up r = Agree (λ p. aboveHolds shown m p r) m n
 
   pub code-same : (r x : ℕ) → Own r → x < 40 → codeAt shown m r x ≡ codeAt shown n r x
-  unfolding codeOf codePlace
-  code-same r x own l = rw (own _ (holds-0 shown r x l), own _ (holds-1 shown r x l), own _ (holds-2 shown r x l))
+  unfolding codeAt
+  code-same r x own l =
+      rw (
+        taken-same (λ p. rowHolds shown p r) m n own (codeAddress shown r x 0) (λ p. holds-0 shown r x p l),
+        taken-same (λ p. rowHolds shown p r) m n own (codeAddress shown r x 1) (λ p. holds-1 shown r x p l),
+        taken-same (λ p. rowHolds shown p r) m n own (codeAddress shown r x 2) (λ p. holds-2 shown r x p l),
+      )
 
   tall-same : (r : ℕ) → Own r → hasTall shown m r ≡ hasTall shown n r
   unfolding hasTall

@@ -26,9 +26,11 @@ use Rattle.rows.specs.Rows.{paintedCell, paintedLine, painted}
 use Rattle.rows.specs.HowRows.{inputAt, inputsOf}
 
 -- a cell's slice, through all that it takes from memory
-slice-taken : (m rom : List ℕ) (c : ℕ) (source : Source) (n : ℕ) → n < 10 → sliceFrom m rom c source n ≡ sliceByte rom c (takenFrom m c source) n
-slice-taken m rom c (Rom set) n l = refl
-slice-taken m rom c (Block z) n l = sym (table-at (keptSlice m c z) 10 n 0 l)
+slice-taken :
+    (blocks : ℕ) (m rom : List ℕ) (c : ℕ) (source : Source) (n : ℕ) → n < 10
+    → sliceFrom blocks m rom c source n ≡ sliceByte rom c (takenFrom blocks m c source) n
+slice-taken blocks m rom c (Rom set) n l = refl
+slice-taken blocks m rom c (Block z) n l = sym (table-at (keptSlice blocks m c z) 10 n 0 l)
 
 module _
     (m rom : List ℕ) (m-small : (i : ℕ) → getD m i 0 < 256) (rom-small : (i : ℕ) → getD rom i 0 < 256) (shown : Shown) (cells : List (List ℕ))
@@ -45,7 +47,7 @@ module _
         let number = sliceShown cell lower n in
         let right : getD rights x false ≡ rightIn cells x = ap (λ (z : List Bool). getD z x false) is-rights ∙ table-at (rightIn cells) 40 x false l in
         ap (λ (r : Bool). cellLine cell shown r number (slicesOf m rom shown cell number)) right
-        ∙ ap (cellLine cell shown (rightIn cells x) number) (slice-taken m rom (characterOf cell) (cellSource shown cell) number (shown-small cell lower n h))
+        ∙ ap (cellLine cell shown (rightIn cells x) number) (slice-taken (shown .blocks) m rom (characterOf cell) (cellSource shown cell) number (shown-small cell lower n h))
         ∙ ap (paintedCell rom shown n) (sym (table-at (inputAt m shown cells lowers) 40 x noInput l))
 
     pub drawn-row :

@@ -1,5 +1,5 @@
--- Which registers a row of 40 columns looks at: DOR and ROR for what it takes from private memory, PAT and the phase for its pixels. TGS and MAT do not
--- matter, nor does the phase where no cell flashes.
+-- Which registers a row of 40 columns looks at: DOR and ROR, with the board, for what it takes from private memory, PAT and the phase for its pixels. TGS and
+-- MAT do not matter, nor does the phase where no cell flashes.
 -- Assumes nothing.
 use Prim.Native.Nat.{ℕ}
 use mathlib.Core.Path.{_≡_, refl, ap, _∙_}
@@ -14,14 +14,17 @@ use Rattle.cell.specs.declared.kind.Cell.{Cell}
 use Rattle.cell.specs.declared.kind.Cell.the-variants.{Bichrome, Quadrichrome}
 use Rattle.pixels.specs.Pixels.{concealed, flashed}
 use Rattle.page.specs.Codes.{codeAt}
+use Rattle.page.specs.Halves.{isTall, isWide, lowerHalf, rightHalf}
+use Rattle.page.proofs.Codes.{code-ignores}
+use Rattle.halves.proofs.Halves.{half-same}
 use Rattle.sources.specs.Sources.{setSource, cellSource}
 use Rattle.page.specs.Inputs.{CellInput, decoded, cellInput, noInput, rowInput}
 use Rattle.rows.specs.Rows.{painted, fortyRow}
 use Rattle.rows.proofs.Alike.{Alike, painted-alike}
 use Rattle.rows.proofs.Phases.{anyFlashes, painted-steady}
 
--- what a row takes from private memory, by DOR and ROR alone
-module _ (a b : Shown) (dor : a .dor ≡ b .dor) (ror : a .ror ≡ b .ror) where
+-- what a row takes from private memory, by DOR, ROR and the board alone
+module _ (a b : Shown) (dor : a .dor ≡ b .dor) (ror : a .ror ≡ b .ror) (blocks : a .blocks ≡ b .blocks) where
   set-same : (set : Set) → setSource a set ≡ setSource b set
   set-same G0 = refl
   set-same G10 = refl
@@ -35,9 +38,17 @@ module _ (a b : Shown) (dor : a .dor ≡ b .dor) (ror : a .ror ≡ b .ror) where
   source-same (Bichrome cell) = set-same (cell .set)
   source-same (Quadrichrome cell) = rw dor
 
+  lower-same : (m : List ℕ) (r x : ℕ) → lowerHalf a m r x ≡ lowerHalf b m r x
+  lower-same m r x = half-same isTall (λ i. codeAt a m i x) (λ i. codeAt b m i x) r (λ i l. code-ignores a b ror blocks m i x)
+
+  right-same : (m : List ℕ) (r x : ℕ) → rightHalf a m r x ≡ rightHalf b m r x
+  right-same m r x = half-same isWide (codeAt a m r) (codeAt b m r) x (λ i l. code-ignores a b ror blocks m r i)
+
   pub input-ignores : (m : List ℕ) (r : ℕ) → rowInput a m r ≡ rowInput b m r
   unfolding rowInput cellInput
-  input-ignores m r = table-same _ _ 40 (λ x l. rw (source-same (decoded (codeAt a m r x)), ror))
+  input-ignores m r =
+      table-same _ _ 40
+      (λ x l. rw (lower-same m r x, right-same m r x, code-ignores a b ror blocks m r x, source-same (decoded (codeAt b m r x)), blocks))
 
 -- its pixels, by PAT and the phase alone
 module _ (a b : Shown) (pat : a .pat ≡ b .pat) (phase : a .phase ≡ b .phase) where
@@ -49,15 +60,15 @@ module _ (a b : Shown) (pat : a .pat ≡ b .pat) (phase : a .phase ≡ b .phase)
   pub painted-ignores : (rom : List ℕ) (inputs : List CellInput) → painted rom a inputs ≡ painted rom b inputs
   painted-ignores rom inputs = painted-alike a b rom inputs (λ x l. cell-same (decoded (getD inputs x noInput .code)))
 
--- a row, by these four
+-- a row, by these five
 pub row-ignores :
-    (a b : Shown) → a .pat ≡ b .pat → a .dor ≡ b .dor → a .ror ≡ b .ror → a .phase ≡ b .phase → (m rom : List ℕ) (r : ℕ) → fortyRow m rom a r ≡ fortyRow m rom b r
-row-ignores a b pat dor ror phase m rom r =
-    painted-ignores a b pat phase rom (rowInput a m r) ∙ ap (painted rom b) (input-ignores a b dor ror m r)
+    (a b : Shown) → a .pat ≡ b .pat → a .dor ≡ b .dor → a .ror ≡ b .ror → a .blocks ≡ b .blocks → a .phase ≡ b .phase → (m rom : List ℕ) (r : ℕ) → fortyRow m rom a r ≡ fortyRow m rom b r
+row-ignores a b pat dor ror blocks phase m rom r =
+    painted-ignores a b pat phase rom (rowInput a m r) ∙ ap (painted rom b) (input-ignores a b dor ror blocks m r)
 
 -- two records that differ in the phase
 pub row-steady :
-    (a b : Shown) → a .pat ≡ b .pat → a .dor ≡ b .dor → a .ror ≡ b .ror → (m rom : List ℕ) (r : ℕ)
+    (a b : Shown) → a .pat ≡ b .pat → a .dor ≡ b .dor → a .ror ≡ b .ror → a .blocks ≡ b .blocks → (m rom : List ℕ) (r : ℕ)
     → anyFlashes (rowInput a m r) ≡ false → fortyRow m rom a r ≡ fortyRow m rom b r
-row-steady a b pat dor ror m rom r none =
-    painted-steady a b pat rom (rowInput a m r) none ∙ ap (painted rom b) (input-ignores a b dor ror m r)
+row-steady a b pat dor ror blocks m rom r none =
+    painted-steady a b pat rom (rowInput a m r) none ∙ ap (painted rom b) (input-ignores a b dor ror blocks m r)

@@ -2,7 +2,7 @@
 ghost use mathlib.Core.Path.{_≡_};
 ghost use lib.ListN.{length};
 ghost use Rattle.basics.specs.Parts.{table, joined};
-ghost use Rattle.address.specs.Boards.{memoryBytes};
+ghost use Rattle.address.specs.Boards.{bytesOf};
 ghost use Rattle.shown.specs.Lengths.{romBytes, fortyBytes, lineBytes, rowBytes};
 ghost use Rattle.page.specs.HowHalves.{rightIn};
 ghost use Rattle.lines.specs.HowLines.{lineOn};
@@ -54,7 +54,7 @@ pub fn draw_row(
     lowers: [bool; 40],
     rights: [bool; 40],
 )
-    requires { ⌜ (length (now part) ≡ rowBytes fortyBytes) × (length (now memory) ≡ memoryBytes) × (length (now rom) ≡ romBytes) × (rights ≡ table (rightIn cells) 40) ⌝ }
+    requires { ⌜ (length (now part) ≡ rowBytes fortyBytes) × (length (now memory) ≡ bytesOf (shown .blocks)) × (length (now rom) ≡ romBytes) × (rights ≡ table (rightIn cells) 40) ⌝ }
     ensures { λ _. ⌜ now (part .exit) ≡ painted (now (rom .entry)) shown (inputsOf (now (memory .entry)) shown cells lowers) ⌝ }
 {
     let tens = tens_of(memory, rom, shown, cells, lowers, rights);

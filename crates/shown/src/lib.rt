@@ -1,4 +1,4 @@
-// What a page is drawn by: the indirect registers and the phase as one record, and what is said of it alone.
+// What a page is drawn by: the indirect registers, the phase and the board as one record, and what is said of it alone.
 pub mod length;
 
 ghost use mathlib.Core.Path.{_≡_};
@@ -17,6 +17,8 @@ pub struct Shown {
     pub dor: u8,
     pub ror: u8,
     pub phase: u8,
+    // The board: how many blocks are fitted.
+    pub blocks: u8,
 }
 
 impl Shown {

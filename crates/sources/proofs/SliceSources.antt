@@ -1,20 +1,20 @@
--- Laws of sources and slices: a source is one of the five ROM sets or of the board's blocks, and a slice's place is in memory.
+-- Laws of sources and slices: a source is one of the five ROM sets or of the sixteen blocks that registers can name, and a slice that is fitted is in memory.
 -- Assumes nothing.
-use Prim.Native.Nat.{ℕ, _+_, _*_, _%_, _<_}
-use mathlib.Core.Path.{_≡_, sym, _∙_}
+use Prim.Native.Nat.{ℕ, _+_, _*_, _/_, _%_, _<_, _≤_}
+use mathlib.Core.Path.{_≡_, sym, ap, _∙_}
 use mathlib.Core.Bool.{Bool, true, false}
 use mathlib.Core.List.{List}
 use native.Mathlib.Omega.{arith}
-use lib.ListN.{getD}
-use Rattle.basics.specs.Choice.{pick}
+use lib.ListN.{length, getD}
 use Rattle.basics.specs.Parts.{table}
 use Rattle.basics.proofs.Parts.{table-same}
-use Rattle.address.specs.Triples.{legalY}
-use Rattle.address.specs.Boards.{boardBlocks, bytesOf}
-use Rattle.address.specs.Places.{placeOf}
-use Rattle.address.specs.Slices.{sliceX, sliceY, slicePlaceOf}
-use Rattle.address.specs.declared.slice.SlicePlace.{SlicePlace}
-use Rattle.address.specs.declared.slice.SlicePlace.the-variants.{At, NoByte}
+use Rattle.address.specs.Addresses.{byteFrom}
+use Rattle.address.specs.Boards.{bytesOf}
+use Rattle.address.specs.Places.{placeOf, placeAt, byteAt}
+use Rattle.address.specs.Slices.{sliceX, sliceY, sliceAt, sliceAddress}
+use Rattle.address.specs.Triples.{legalY, legal}
+use Rattle.address.proofs.Addresses.{address-illegal, byte-kept}
+use Rattle.address.proofs.Laws.{good-column}
 use Rattle.address.proofs.Places.{place-fits}
 use Rattle.shown.specs.declared.Shown.{Shown}
 use Rattle.cell.specs.declared.kind.Set.{Set}
@@ -25,10 +25,10 @@ use Rattle.sources.specs.Sources.{setSource, cellSource, characterOf, ke
 use Rattle.sources.specs.declared.source.Source.{Source}
 use Rattle.sources.specs.declared.source.Source.the-variants.{Rom, Block}
 
--- a ROM set is one of five, a block one of the board's
+-- a ROM set is one of five, a block one of sixteen, whatever the board has
 abbrev pub Fitting : Source → Type 0
 Fitting (Rom set) = set < 5
-Fitting (Block z) = z < boardBlocks
+Fitting (Block z) = z < 16
 
 set-fitting : (shown : Shown) (set : Set) → Fitting (setSource shown set)
 set-fitting shown G0 = omega arith
@@ -46,26 +46,36 @@ source-fitting shown (Quadrichrome cell) = omega arith
 pub rom-fitting : (shown : Shown) (cell : Cell) (s : Source) (set : ℕ) → s ≡ cellSource shown cell → s ≡ Rom set → set < 5
 rom-fitting shown cell s set e f = rw (sym e ∙ f) at (source-fitting shown cell)
 
-pub block-fitting : (shown : Shown) (cell : Cell) (s : Source) (z : ℕ) → s ≡ cellSource shown cell → s ≡ Block z → z < boardBlocks
-block-fitting shown cell s z e f = rw (sym e ∙ f) at (source-fitting shown cell)
+-- a slice's place, at the numbers that the code has
+pub slice-place : (c n z p : ℕ) → p ≡ placeOf (n * 4 + c % 4) (c / 4 % 32) z → p ≡ placeAt (sliceAt c n z)
+slice-place c n z p e =
+    let x : n * 4 + c % 4 ≡ sliceX c n = omega arith in
+    let y : c / 4 % 32 ≡ sliceY c = omega arith in
+    e ∙ rw (x, y)
 
--- where a slice is read
-pub slice-fits : (blocks c n z p : ℕ) → slicePlaceOf c n z ≡ At p → z < blocks → n < 10 → p < bytesOf blocks
-unfolding slicePlaceOf
-slice-fits blocks c n z p e hz hn = go (legalY (sliceY c)) e
-  where
-    go : (t : Bool) → pick t (At (placeOf (sliceX c n) (sliceY c) z)) NoByte ≡ At p → p < bytesOf blocks
-    go true q = let same : placeOf (sliceX c n) (sliceY c) z ≡ p = cc in rw (← same) (place-fits blocks (sliceX c n) (sliceY c) z (omega arith) (omega arith) hz)
-    go false q = let no : _≡_ {A = ℕ} 0 1 = cc in absurd (omega arith)
+-- is in memory, where memory has its block
+pub slice-fits : (m : List ℕ) (c n z p : ℕ) → p ≡ placeAt (sliceAt c n z) → n < 10 → 1024 * z + 1024 ≤ length m → p < length m
+slice-fits m c n z p e l h = omega (arith, place-fits (z + 1) (sliceX c n) (sliceY c) z (omega arith) (omega arith) (omega arith))
 
-module _ (m : List ℕ) (c z n : ℕ) (s : SlicePlace) (learnt : s ≡ slicePlaceOf c n z) where
-  pub slice-read : (p : ℕ) → s ≡ At p → getD m p 0 ≡ keptSlice m c z n
-  unfolding keptSlice
-  slice-read p e = rw (sym learnt ∙ e)
+-- the ten slices of a character have one Y and one block
+module _ (blocks : ℕ) (m : List ℕ) (c z : ℕ) where
+  lawful : (n : ℕ) → n < 10 → legal (sliceAt c n z) ≡ legalY (sliceY c)
+  lawful n l = good-column (sliceX c n) (sliceY c) (omega arith)
 
-  pub slice-none : s ≡ NoByte → 0 ≡ keptSlice m c z n
-  unfolding keptSlice
-  slice-none e = rw (sym learnt ∙ e)
+  -- all are legal, or none; `ok` is the code's test of the Y
+  module _ (y : ℕ) (ok : Bool) (ey : y ≡ sliceY c) (learnt : ok ≡ legalY y) where
+    lawful-y : ok ≡ legalY (sliceY c)
+    lawful-y = learnt ∙ ap legalY ey
+
+    -- in a block that is not fitted each is past the end of memory, and 0 there
+    pub slices-read :
+        ok ≡ true → length m ≡ bytesOf blocks → table (λ n. byteAt m (placeAt (sliceAt c n z))) 10 ≡ table (keptSlice blocks m c z) 10
+    unfolding keptSlice sliceAddress
+    slices-read e whole = table-same _ _ 10 (λ n l. sym (byte-kept blocks (sliceAt c n z) m whole (lawful n l ∙ sym lawful-y ∙ e)))
+
+    pub slices-none : ok ≡ false → table (λ n. 0) 10 ≡ table (keptSlice blocks m c z) 10
+    unfolding keptSlice sliceAddress
+    slices-none e = table-same _ _ 10 (λ n l. sym (ap (byteFrom m) (address-illegal blocks (sliceAt c n z) (lawful n l ∙ sym lawful-y ∙ e))))
 
 -- a slice of the ROM, at the sum that the code has
 pub rom-read : (rom : List ℕ) (c set n : ℕ) → getD rom (set * 1280 + c % 128 * 10 + n) 0 ≡ romSlice rom c set n
@@ -79,6 +89,6 @@ module _ (m rom : List ℕ) (shown : Shown) (cell : Cell) (c : ℕ) (s : Source)
   unfolding slicesOf
   slices-rom set e = table-same _ _ 10 (λ n l. rw (← es, e, ec))
 
-  pub slices-kept : (z : ℕ) → s ≡ Block z → table (keptSlice m c z) 10 ≡ table (slicesOf m rom shown cell) 10
+  pub slices-kept : (z : ℕ) → s ≡ Block z → table (keptSlice (shown .blocks) m c z) 10 ≡ table (slicesOf m rom shown cell) 10
   unfolding slicesOf
   slices-kept z e = table-same _ _ 10 (λ n l. rw (← es, e, ec))

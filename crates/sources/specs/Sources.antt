@@ -3,10 +3,9 @@
 use Prim.Native.Nat.{ℕ, _+_, _*_, _%_}
 use mathlib.Core.List.{List}
 use Rattle.basics.specs.Bits.{bit, bits}
+use Rattle.address.specs.Addresses.{byteFrom}
 use Rattle.address.specs.Places.{byteAt}
-use Rattle.address.specs.Slices.{slicePlaceOf}
-use Rattle.address.specs.declared.slice.SlicePlace.{SlicePlace}
-use Rattle.address.specs.declared.slice.SlicePlace.the-variants.{At, NoByte}
+use Rattle.address.specs.Slices.{sliceAddress}
 use Rattle.shown.specs.declared.Shown.{Shown}
 use Rattle.cell.specs.declared.kind.Set.{Set}
 use Rattle.cell.specs.declared.kind.Set.the-variants.{G0, G10, G11, G20, G21, UserG0, UserG1}
@@ -34,24 +33,20 @@ abbrev pub characterOf : Cell → ℕ
 characterOf (Bichrome cell) = cell .character
 characterOf (Quadrichrome cell) = cell .character
 
--- If that Y is 1..7 the slice is 0 and no byte is read
-abbrev pub byteOr : List ℕ → SlicePlace → ℕ
-byteOr m (At p) = byteAt m p
-byteOr m NoByte = 0
-
--- slice n of the character c in block z of private memory
-unfoldable pub keptSlice : List ℕ → ℕ → ℕ → ℕ → ℕ
-keptSlice m c z n = byteOr m (slicePlaceOf c n z)
+-- slice n of the character c in block z of private memory, on a board of so many blocks. If its Y is 1..7 the slice is 0 and no byte is read;
+-- a byte that is not fitted is 0
+unfoldable pub keptSlice : ℕ → List ℕ → ℕ → ℕ → ℕ → ℕ
+keptSlice blocks m c z n = byteFrom m (sliceAddress blocks c n z)
 
 -- ROM slice: 1280·set + 10·(C modulo 128) + slice
 unfoldable pub romSlice : List ℕ → ℕ → ℕ → ℕ → ℕ
 romSlice rom c set n = byteAt rom (1280 * set + 10 * (c % 128) + n)
 
 -- slice n of a character from its source
-abbrev pub sliceFrom : List ℕ → List ℕ → ℕ → Source → ℕ → ℕ
-sliceFrom m rom c (Rom set) n = romSlice rom c set n
-sliceFrom m rom c (Block z) n = keptSlice m c z n
+abbrev pub sliceFrom : ℕ → List ℕ → List ℕ → ℕ → Source → ℕ → ℕ
+sliceFrom blocks m rom c (Rom set) n = romSlice rom c set n
+sliceFrom blocks m rom c (Block z) n = keptSlice blocks m c z n
 
 -- slice n of a cell
 unfoldable pub slicesOf : List ℕ → List ℕ → Shown → Cell → ℕ → ℕ
-slicesOf m rom shown cell n = sliceFrom m rom (characterOf cell) (cellSource shown cell) n
+slicesOf m rom shown cell n = sliceFrom (shown .blocks) m rom (characterOf cell) (cellSource shown cell) n

@@ -1,13 +1,16 @@
 // Where a cell's slices come from, and the ten of them.
 ghost use mathlib.Core.Path.{_≡_};
-ghost use Prim.Native.Nat.{_<_};
+ghost use Prim.Native.Nat.{_+_, _*_, _<_, _≤_};
 ghost use lib.ListN.{length};
 ghost use Rattle.basics.specs.Parts.{table};
-ghost use Rattle.address.specs.Boards.{boardBlocks, memoryBytes};
+ghost use Rattle.address.specs.Boards.{bytesOf};
+ghost use Rattle.address.specs.Places.{placeAt, byteAt};
+ghost use Rattle.address.specs.Slices.{sliceAt};
 ghost use Rattle.shown.specs.Lengths.{romBytes};
 ghost use Rattle.sources.specs.Sources.{setSource, cellSource, characterOf, keptSlice, romSlice, slicesOf};
-use address::slice::SlicePlace;
-use address::slice::slice_place;
+use address::byte::byte_or_zero;
+use address::place::place_at;
+use address::triple::is_legal_y;
 use cell::kind::Cell;
 use cell::kind::Set;
 use shown::Shown;
@@ -55,26 +58,44 @@ pub fn character(cell: Cell) -> u8
     }
 }
 
-// A slice in private memory: 0 where no byte is read.
-pub fn kept_slice(memory: &[u8], c: u8, z: u8, slice: u8) -> u8
-    requires { ⌜ (length (now memory) ≡ memoryBytes) × (z < boardBlocks) × (slice < 10) ⌝ }
-    ensures { λ r. ⌜ r ≡ keptSlice (now (memory .entry)) c z slice ⌝ }
-{
-    let SlicePlace::At(p) = slice_place(c, slice, z) else {
-        return 0;
-    };
-    memory[p]
-}
-
-pub fn kept_slices(memory: &[u8], c: u8, z: u8) -> [u8; 10]
-    requires { ⌜ (length (now memory) ≡ memoryBytes) × (z < boardBlocks) ⌝ }
-    ensures { λ r. ⌜ r ≡ table (keptSlice (now (memory .entry)) c z) 10 ⌝ }
+// The ten slices of a character in private memory, where they are read.
+fn fitted_slices(memory: &[u8], c: u8, z: u8) -> [u8; 10]
+    requires { ⌜ 1024 * z + 1024 ≤ length (now memory) ⌝ }
+    ensures { λ r. ⌜ r ≡ table (λ n. byteAt (now (memory .entry)) (placeAt (sliceAt c n z))) 10 ⌝ }
 {
     let mut slices = [0u8; 10];
     for n in 0..10 {
-        slices[n] = kept_slice(memory, c, z, n as u8);
+        let p = place_at(n as u16 * 4 + c as u16 % 4, c as u16 / 4 % 32, z as u16);
+        slices[n] = memory[p];
     }
     slices
+}
+
+// The same in a block that is not fitted, and lies past the end of memory.
+fn bare_slices(memory: &[u8], c: u8, z: u8) -> [u8; 10]
+    ensures { λ r. ⌜ r ≡ table (λ n. byteAt (now (memory .entry)) (placeAt (sliceAt c n z))) 10 ⌝ }
+{
+    let mut slices = [0u8; 10];
+    for n in 0..10 {
+        let p = place_at(n as u16 * 4 + c as u16 % 4, c as u16 / 4 % 32, z as u16);
+        slices[n] = byte_or_zero(memory, p);
+    }
+    slices
+}
+
+// The ten slices of a character in private memory of a board of so many blocks: 0 where no byte is read. They have one Y and one block, so that one
+// test of each tells it for all of them. (That [0; 10] is returned in one place alone spares the compiler's code a dozen instructions a cell.)
+pub fn kept_slices(memory: &[u8], blocks: u8, c: u8, z: u8) -> [u8; 10]
+    requires { ⌜ length (now memory) ≡ bytesOf blocks ⌝ }
+    ensures { λ r. ⌜ r ≡ table (keptSlice blocks (now (memory .entry)) c z) 10 ⌝ }
+{
+    if !is_legal_y(c / 4 % 32) {
+        return [0; 10];
+    }
+    if z < blocks {
+        return fitted_slices(memory, c, z);
+    }
+    bare_slices(memory, c, z)
 }
 
 // The ten slices of a character stand side by side in the ROM.
@@ -91,13 +112,13 @@ pub fn rom_slices(rom: &[u8], c: u8, set: u8) -> [u8; 10]
 }
 
 pub fn slices_of(memory: &[u8], rom: &[u8], shown: Shown, cell: Cell) -> [u8; 10]
-    requires { ⌜ (length (now memory) ≡ memoryBytes) × (length (now rom) ≡ romBytes) ⌝ }
+    requires { ⌜ (length (now memory) ≡ bytesOf (shown .blocks)) × (length (now rom) ≡ romBytes) ⌝ }
     ensures { λ r. ⌜ r ≡ table (slicesOf (now (memory .entry)) (now (rom .entry)) shown cell) 10 ⌝ }
 {
     let c = character(cell);
     let source = cell_source(cell, shown);
     match source {
         Source::Rom(set) => rom_slices(rom, c, set),
-        Source::Block(z) => kept_slices(memory, c, z),
+        Source::Block(z) => kept_slices(memory, shown.blocks, c, z),
     }
 }

@@ -1,4 +1,4 @@
-use Rattle.address.proofs.Laws.{bad-column, bad-row, good-row}
+use Rattle.address.proofs.Laws.{bad-column, good-column}
 use mathlib.Core.Path.{sym, _∙_}
 use native.Mathlib.Omega.{arith}
 use borrow.Author.Needs.{needs}
@@ -12,10 +12,7 @@ is-legal-y-requires : tie.Need-is-legal-y-requires
 is-legal-y-requires c κs = search needs
 
 returns-2 : tie.Need-returns-2
-returns-2 c = sym (good-row _ _ (omega arith) (sym (c .before .before .is-legal-y .ensures) ∙ c .before .if2 .taken))
-
-returns-3 : tie.Need-returns-3
-returns-3 c = sym (bad-row _ _ (omega arith) (sym (c .before .is-legal-y .ensures) ∙ c .if2 .left))
+returns-2 c = c .is-legal-y .ensures ∙ sym (good-column _ _ (omega arith))
 
 pub is-legal-spec : {M : Type 1} → statement M
-is-legal-spec = tie.close (tie.spec returns is-legal-y-requires returns-2 returns-3)
+is-legal-spec = tie.close (tie.spec returns is-legal-y-requires returns-2)

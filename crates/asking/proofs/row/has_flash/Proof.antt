@@ -1,5 +1,5 @@
 use mathlib.Core.Path.{refl, sym, _∙_}
-use Rattle.page.specs.Codes.{codeOf}
+use Rattle.page.specs.HowCodes.{codeOf}
 use Rattle.page.specs.Inputs.{flashes}
 use Rattle.asking.proofs.Rows.{three-stretches}
 use borrow.Author.Needs.{needs}

@@ -1,4 +1,4 @@
-use Rattle.page.specs.Codes.{codeOf}
+use Rattle.page.specs.HowCodes.{codeOf}
 use Rattle.narrow.specs.Codes.{pairFlashes}
 use Rattle.page.proofs.Stretches.{row-stretches}
 use borrow.Author.Needs.{needs}

@@ -1,4 +1,4 @@
-use Rattle.address.specs.Boards.{boardBlocks, memoryBytes}
+use lib.ListN.{length}
 use Prim.Native.Nat.{_+_, _≤_, _-_}
 use mathlib.Core.Path.{_≡_, refl}
 use native.Mathlib.Omega.{arith}
@@ -11,7 +11,7 @@ use Rattle.asking.proofs.stretch.some_blink.Statement.{statement}
 use Rattle.asking.proofs.stretch.some_blink.Tie as tie
 
 abbrev Inv-loop : tie.InvT-loop
-Inv-loop memory z y first n a found₀ i₀ found i = (i ≤ n) × (a + n ≤ memoryBytes) × (found ≡ anyBelow (λ j. blinks (codeFrom memory z y first j)) i)
+Inv-loop memory z y first n a found₀ i₀ found i = (i ≤ n) × (a + n ≤ length memory) × (found ≡ anyBelow (λ j. blinks (codeFrom memory z y first j)) i)
 
 abbrev μ-loop : tie.MeasureT-loop
 μ-loop memory z y first n a found₀ i₀ found i = n - i
@@ -21,8 +21,9 @@ start-requires c κs = search needs
 
 loop-holds : tie.Need-loop-holds Inv-loop μ-loop
 unfolding anyBelow
-loop-holds c = let p = c .before .before .pre in
-    (omega arith, from-fits boardBlocks _ _ _ _ 2 _ (c .start .ensures) (omega arith) (p .2), refl)
+loop-holds c = let s = c .before .before .args in
+    let p = c .before .before .pre in
+    (omega arith, from-fits (s .memory .now) _ _ _ _ 2 _ (c .start .ensures) (p .0) (p .1), refl)
 
 add-found : tie.Need-add-found Inv-loop μ-loop
 add-found c = search needs

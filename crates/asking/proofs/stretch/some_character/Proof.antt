@@ -1,4 +1,4 @@
-use Rattle.address.specs.Boards.{boardBlocks, memoryBytes}
+use lib.ListN.{length}
 use Prim.Native.Nat.{_+_, _≤_, _-_}
 use mathlib.Core.Path.{_≡_, refl, _∙_}
 use native.Mathlib.Omega.{arith}
@@ -13,7 +13,7 @@ use Rattle.asking.proofs.stretch.some_character.Statement.{statement}
 use Rattle.asking.proofs.stretch.some_character.Tie as tie
 
 abbrev Inv-loop : tie.InvT-loop
-Inv-loop memory z y first n t c b gathered₀ i₀ gathered i = (i ≤ n) × (c + n ≤ memoryBytes) × (b + n ≤ memoryBytes) × (leb 128 gathered ≡ anyBelow (λ j. showsCharacter t (codeFrom memory z y first j)) i)
+Inv-loop memory z y first n t c b gathered₀ i₀ gathered i = (i ≤ n) × (c + n ≤ length memory) × (b + n ≤ length memory) × (leb 128 gathered ≡ anyBelow (λ j. showsCharacter t (codeFrom memory z y first j)) i)
 
 abbrev μ-loop : tie.MeasureT-loop
 μ-loop memory z y first n t c b gathered₀ i₀ gathered i = n - i
@@ -26,8 +26,9 @@ start-requires-2 c κs = search needs
 
 loop-holds : tie.Need-loop-holds Inv-loop μ-loop
 unfolding anyBelow
-loop-holds c = let p = c .before .before .before .pre in
-    (omega arith, from-fits boardBlocks _ _ _ _ 0 _ (c .before .start .ensures) (omega arith) (p .2), from-fits boardBlocks _ _ _ _ 1 _ (c .start2 .ensures) (omega arith) (p .2), refl)
+loop-holds c = let s = c .before .before .before .args in
+    let p = c .before .before .before .pre in
+    (omega arith, from-fits (s .memory .now) _ _ _ _ 0 _ (c .before .start .ensures) (p .0) (p .2), from-fits (s .memory .now) _ _ _ _ 1 _ (c .start2 .ensures) (p .1) (p .2), refl)
 
 add-taken : tie.Need-add-taken Inv-loop μ-loop
 add-taken c = search needs

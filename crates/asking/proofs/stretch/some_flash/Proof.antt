@@ -1,9 +1,9 @@
-use Rattle.address.specs.Boards.{boardBlocks, memoryBytes}
+use lib.ListN.{length}
 use Prim.Native.Nat.{_+_, _≤_, _-_}
 use mathlib.Core.Path.{_≡_, refl, ap, _∙_}
 use native.Mathlib.Omega.{arith}
 use Rattle.basics.specs.Below.{anyBelow}
-use Rattle.page.specs.Codes.{codeOf}
+use Rattle.page.specs.HowCodes.{codeOf}
 use Rattle.basics.proofs.Below.{gathered}
 use Rattle.page.specs.Inputs.{flashes}
 use Rattle.page.proofs.Stretches.{stretch-fits, stretch-b, stretch-a}
@@ -13,7 +13,7 @@ use Rattle.asking.proofs.stretch.some_flash.Statement.{statement}
 use Rattle.asking.proofs.stretch.some_flash.Tie as tie
 
 abbrev Inv-loop : tie.InvT-loop
-Inv-loop memory z y first n b a found₀ i₀ found i = (i ≤ n) × (b + n ≤ memoryBytes) × (a + n ≤ memoryBytes) × (found ≡ anyBelow (λ j. flashes (codeOf memory z y (first + j))) i)
+Inv-loop memory z y first n b a found₀ i₀ found i = (i ≤ n) × (b + n ≤ length memory) × (a + n ≤ length memory) × (found ≡ anyBelow (λ j. flashes (codeOf memory z y (first + j))) i)
 
 abbrev μ-loop : tie.MeasureT-loop
 μ-loop memory z y first n b a found₀ i₀ found i = n - i
@@ -26,8 +26,9 @@ start-requires-2 c κs = search needs
 
 loop-holds : tie.Need-loop-holds Inv-loop μ-loop
 unfolding anyBelow
-loop-holds c = let p = c .before .before .before .pre in
-    (omega arith, stretch-fits boardBlocks _ _ _ _ 1 _ (c .before .start .ensures) (omega arith) (p .2) (p .3) (p .4), stretch-fits boardBlocks _ _ _ _ 2 _ (c .start2 .ensures) (omega arith) (p .2) (p .3) (p .4), refl)
+loop-holds c = let s = c .before .before .before .args in
+    let p = c .before .before .before .pre in
+    (omega arith, stretch-fits (s .memory .now) _ _ _ _ 1 _ (c .before .start .ensures) (p .0) (p .2) (p .3) (p .4), stretch-fits (s .memory .now) _ _ _ _ 2 _ (c .start2 .ensures) (p .1) (p .2) (p .3) (p .4), refl)
 
 add-found : tie.Need-add-found Inv-loop μ-loop
 add-found c = search needs

@@ -1,9 +1,9 @@
-use Rattle.address.specs.Boards.{boardBlocks, memoryBytes}
+use lib.ListN.{length}
 use Prim.Native.Nat.{_+_, _≤_, _-_}
 use mathlib.Core.Path.{_≡_, refl}
 use native.Mathlib.Omega.{arith}
 use Rattle.basics.specs.Below.{anyBelow}
-use Rattle.page.specs.Codes.{codeOf}
+use Rattle.page.specs.HowCodes.{codeOf}
 use Rattle.basics.proofs.Below.{gathered, gathered-end}
 use Rattle.keys.specs.HowKeys.{keyed}
 use Rattle.page.proofs.Stretches.{stretch-fits, stretch-c, stretch-b}
@@ -13,7 +13,7 @@ use Rattle.asking.proofs.stretch.some_keyed.Statement.{statement}
 use Rattle.asking.proofs.stretch.some_keyed.Tie as tie
 
 abbrev Inv-loop : tie.InvT-loop
-Inv-loop memory z y first n keys c b found₀ i₀ found i = (i ≤ n) × (c + n ≤ memoryBytes) × (b + n ≤ memoryBytes) × (found ≡ anyBelow (λ j. keyed keys (codeOf memory z y (first + j))) i)
+Inv-loop memory z y first n keys c b found₀ i₀ found i = (i ≤ n) × (c + n ≤ length memory) × (b + n ≤ length memory) × (found ≡ anyBelow (λ j. keyed keys (codeOf memory z y (first + j))) i)
 
 abbrev μ-loop : tie.MeasureT-loop
 μ-loop memory z y first n keys c b found₀ i₀ found i = n - i
@@ -26,8 +26,9 @@ start-requires-2 c κs = search needs
 
 loop-holds : tie.Need-loop-holds Inv-loop μ-loop
 unfolding anyBelow
-loop-holds c = let p = c .before .before .before .pre in
-    (omega arith, stretch-fits boardBlocks _ _ _ _ 0 _ (c .before .start .ensures) (omega arith) (p .2) (p .3) (p .4), stretch-fits boardBlocks _ _ _ _ 1 _ (c .start2 .ensures) (omega arith) (p .2) (p .3) (p .4), refl)
+loop-holds c = let s = c .before .before .before .args in
+    let p = c .before .before .before .pre in
+    (omega arith, stretch-fits (s .memory .now) _ _ _ _ 0 _ (c .before .start .ensures) (p .0) (p .2) (p .3) (p .4), stretch-fits (s .memory .now) _ _ _ _ 1 _ (c .start2 .ensures) (p .1) (p .2) (p .3) (p .4), refl)
 
 add-byte : tie.Need-add-byte Inv-loop μ-loop
 add-byte c = search needs
@@ -42,7 +43,7 @@ shared-slice-read-found : tie.Need-shared-slice-read-found Inv-loop μ-loop
 shared-slice-read-found c = search needs
 
 add-i : tie.Need-add-i Inv-loop μ-loop
-add-i c = search needs
+add-i c = let short = c .before .before .before .before .before .before .before .before .before .before .before .before .before .before .pre .3 in search needs
 
 loop-less : tie.Need-loop-less Inv-loop μ-loop
 loop-less c = omega arith

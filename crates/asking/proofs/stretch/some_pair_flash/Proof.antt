@@ -3,7 +3,7 @@ use mathlib.Core.Path.{_≡_, refl, ap, _∙_}
 use native.Mathlib.Omega.{arith}
 use Rattle.basics.specs.Below.{anyBelow}
 use Rattle.basics.proofs.Below.{gathered, gathered-end}
-use Rattle.page.specs.Codes.{codeOf}
+use Rattle.page.specs.HowCodes.{codeOf}
 use Rattle.page.specs.HowHalves.{Within, stretchCode}
 use Rattle.page.proofs.Stretches.{starts-fit, code-from}
 use Rattle.narrow.specs.Codes.{pairFlashes}
@@ -13,7 +13,7 @@ use Rattle.asking.proofs.stretch.some_pair_flash.Statement.{statement}
 use Rattle.asking.proofs.stretch.some_pair_flash.Tie as tie
 
 abbrev Inv-loop : tie.InvT-loop
-Inv-loop memory z y first n here found₀ i₀ found i = (i ≤ n) × Within here n × (found ≡ anyBelow (λ j. pairFlashes (codeOf memory z y (first + j))) i)
+Inv-loop memory z y first n here found₀ i₀ found i = (i ≤ n) × Within memory here n × (found ≡ anyBelow (λ j. pairFlashes (codeOf memory z y (first + j))) i)
 
 abbrev μ-loop : tie.MeasureT-loop
 μ-loop memory z y first n here found₀ i₀ found i = n - i
@@ -23,8 +23,9 @@ starts-of-requires c κs = search needs
 
 loop-holds : tie.Need-loop-holds Inv-loop μ-loop
 unfolding anyBelow
-loop-holds c = let p = c .before .before .pre in
-    (omega arith, starts-fit _ _ _ _ _ (c .starts-of .ensures) (p .1) (p .2) (p .3) (p .4), refl)
+loop-holds c = let s = c .before .before .args in
+    let p = c .before .before .pre in
+    (omega arith, starts-fit (s .memory .now) _ _ _ _ _ (c .starts-of .ensures) (p .0) (p .1) (p .2) (p .3) (p .4) (p .5), refl)
 
 add-byte : tie.Need-add-byte Inv-loop μ-loop
 add-byte c = search needs

@@ -11,7 +11,7 @@ row-at-requires : tie.Need-row-at-requires
 row-at-requires c κs = search needs
 
 reach-requires : tie.Need-reach-requires
-reach-requires c κs = let s = c .before .before .before .before .before in (s .pre .0, search needs, search needs, rw (c .row-at .ensures) (row-at-small (s .args .yor) (s .args .y)))
+reach-requires c κs = let s = c .before .before .before .before .before in (s .pre .0, search needs, rw (c .row-at .ensures) (row-at-small (s .args .yor) (s .args .y)))
 
 returns : tie.Need-returns
 returns c = let t = c .before .before .before in

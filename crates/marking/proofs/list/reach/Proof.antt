@@ -37,7 +37,7 @@ row-y-requires : tie.Need-row-y-requires Inv-loop μ-loop
 row-y-requires c κs = search needs
 
 has-tall-requires : tie.Need-has-tall-requires Inv-loop μ-loop
-has-tall-requires c κs = (search needs, search needs, rw (c .row-y .ensures) (row-small _ _))
+has-tall-requires c κs = (search needs, rw (c .row-y .ensures) (row-small _ _))
 
 returns : tie.Need-returns Inv-loop μ-loop
 returns c = let h = c .before in

@@ -2,7 +2,7 @@ use mathlib.Core.Path.{sym, ap, _∙_}
 use mathlib.Core.Bool.{Bool, _&&_, and-false}
 use native.Mathlib.Omega.{arith}
 use lib.Dec.{eqb}
-use Rattle.page.specs.Codes.{codeOf}
+use Rattle.page.specs.HowCodes.{codeOf}
 use Rattle.reading.proofs.Marking.{marked-none}
 use Rattle.asking.proofs.Rows.{no-character}
 use Rattle.marking.proofs.Loops.{one-marked}

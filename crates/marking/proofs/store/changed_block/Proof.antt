@@ -15,10 +15,10 @@ shared-slice-read-if1 : tie.Need-shared-slice-read-if1
 shared-slice-read-if1 c = search needs
 
 returns : tie.Need-returns
-returns c = let s = c .before .before .args in changed-not (s .memory .now) (1024 * s .z + s .at) (s .z * 1024 + s .at) (s .z) (s .value) (omega arith) (omega arith)
+returns c = let s = c .before .before .args in (changed-not (s .memory .now) (1024 * s .z + s .at) (s .z * 1024 + s .at) (s .z) (s .value) (omega arith) (omega arith), omega arith)
 
 returns-2 : tie.Need-returns-2
-returns-2 c = let s = c .before .before .args in changed-there (s .memory .now) (1024 * s .z + s .at) (s .z * 1024 + s .at) (s .z) (s .value) (omega arith) (λ e. omega arith)
+returns-2 c = let s = c .before .before .args in (changed-there (s .memory .now) (1024 * s .z + s .at) (s .z * 1024 + s .at) (s .z) (s .value) (omega arith) (λ e. omega arith), omega arith)
 
 pub changed-block-spec : {M : Type 1} → statement M
 changed-block-spec = tie.close (tie.spec mul-if1 add-if1 shared-slice-read-if1 returns returns-2)

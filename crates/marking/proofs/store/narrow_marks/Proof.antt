@@ -1,10 +1,10 @@
+use mathlib.Core.Logic.{inl}
 use mathlib.Core.Path.{refl, sym, ap, _∙_}
 use native.Mathlib.Omega.{arith}
-use Rattle.address.specs.Boards.{boardBlocks}
 use Rattle.address.specs.Narrow.{attributesAt}
 use Rattle.address.specs.declared.triple.Triple.{Triple}
 use Rattle.address.proofs.Laws.{legal-page, legal-block}
-use Rattle.marking.proofs.Changes.{here-fits, changed-at, narrow-changes, changes-none}
+use Rattle.marking.proofs.Changes.{here-fits, changed-fits, changed-at, narrow-changes, changes-none}
 use borrow.Author.Needs.{needs}
 use Rattle.marking.proofs.store.narrow_marks.Statement.{statement}
 use Rattle.marking.proofs.store.narrow_marks.Tie as tie
@@ -23,11 +23,13 @@ attributes-at-requires c κs = search needs
 
 changed-block-requires : tie.Need-changed-block-requires
 changed-block-requires c κs = let s = c .before .before .before .before .before in
-    (search needs, here-fits _ _ _ (legal-page boardBlocks (s .args .at) (s .pre .1)) (c .before .place-at .ensures), legal-block boardBlocks (s .args .at) (s .pre .1))
+    let board = s .args .shown .blocks in
+    (s .pre .0, here-fits board (s .args .at) _ (s .pre .1) (c .before .place-at .ensures), legal-block board (s .args .at) (s .pre .1))
 
 changed-block-requires-2 : tie.Need-changed-block-requires-2
 changed-block-requires-2 c κs = let s = c .before .before .before .before .before .before in
-    (search needs, here-fits _ _ _ (legal-page boardBlocks (s .args .at) (s .pre .1)) (c .before .before .place-at .ensures), omega (arith, ap (λ (t : Triple). t .z) (c .before .attributes-at .ensures), legal-block boardBlocks (s .args .at) (s .pre .1)))
+    let board = s .args .shown .blocks in
+    (s .pre .0, here-fits board (s .args .at) _ (s .pre .1) (c .before .before .place-at .ensures), omega (arith, ap (λ (t : Triple). t .z) (c .before .attributes-at .ensures), legal-block board (s .args .at) (s .pre .1), legal-block board (attributesAt (s .args .at)) (s .pre .2)))
 
 some-changed-requires : tie.Need-some-changed-requires
 some-changed-requires c κs = search needs
@@ -41,13 +43,18 @@ returns c = let c2 = c .before .before in
     let a = s .args in
     changes-none (a .shown) (a .memory .now) (a .marks) (search needs) (a .at .x) (a .at .y) _ _ (c .before .some-changed .ensures) (c .if1 .taken)
     ∙ sym
-    (narrow-changes (a .shown) (a .memory .now) (a .marks) (search needs) (a .at) (s .pre .1) _ _ _ _
-    (changed-at (a .memory .now) (a .at .x) (a .at .y) (a .at .z) _ _ _ _ (p .place-at .ensures) refl (c1 .changed-block .ensures))
-    (changed-at (a .memory .now) (a .at .x) (a .at .y) (attributesAt (a .at) .z) _ _ _ _ (p .place-at .ensures) (omega (arith, ap (λ (t : Triple). t .z) (e .attributes-at .ensures))) (c2 .changed-block2 .ensures)))
+    (narrow-changes (a .shown) (a .memory .now) (a .marks) (search needs) (a .at) _ _ _ _ (c1 .changed-block .ensures .1) (omega (arith, ap (λ (t : Triple). t .z) (e .attributes-at .ensures), c2 .changed-block2 .ensures .1))
+    (changed-at (a .memory .now) (a .at .x) (a .at .y) (a .at .z) _ _ _ _ (p .place-at .ensures) refl (c1 .changed-block .ensures .0))
+    (changed-at (a .memory .now) (a .at .x) (a .at .y) (attributesAt (a .at) .z) _ _ _ _ (p .place-at .ensures) (omega (arith, ap (λ (t : Triple). t .z) (e .attributes-at .ensures))) (c2 .changed-block2 .ensures .0)))
 
 change-marks-requires : tie.Need-change-marks-requires
-change-marks-requires c κs = let s = c .before .before .before .before .before .before .before .before .before in
-    (search needs, legal-page boardBlocks (s .args .at) (s .pre .1))
+change-marks-requires c κs = let c2 = c .before .before in
+    let c1 = c2 .before in
+    let e = c1 .before in
+    let s = e .before .before .before .before .before in
+    let board = s .args .shown .blocks in
+    let attributes = ap (λ (t : Triple). t .z) (e .attributes-at .ensures) in
+    (s .pre .0, legal-page board (s .args .at) (s .pre .1), (changed-fits board _ _ _ _ _ (legal-block board (s .args .at) (s .pre .1)) (c1 .changed-block .ensures .0), changed-fits board _ _ _ _ _ (omega (arith, attributes, legal-block board (s .args .at) (s .pre .1), legal-block board (attributesAt (s .args .at)) (s .pre .2))) (c2 .changed-block2 .ensures .0), inl refl))
 
 returns-2 : tie.Need-returns-2
 returns-2 c = let c2 = c .before .before .before in
@@ -58,9 +65,9 @@ returns-2 c = let c2 = c .before .before .before in
     let a = s .args in
     c .change-marks .ensures
     ∙ sym
-    (narrow-changes (a .shown) (a .memory .now) (a .marks) (search needs) (a .at) (s .pre .1) _ _ _ _
-    (changed-at (a .memory .now) (a .at .x) (a .at .y) (a .at .z) _ _ _ _ (p .place-at .ensures) refl (c1 .changed-block .ensures))
-    (changed-at (a .memory .now) (a .at .x) (a .at .y) (attributesAt (a .at) .z) _ _ _ _ (p .place-at .ensures) (omega (arith, ap (λ (t : Triple). t .z) (e .attributes-at .ensures))) (c2 .changed-block2 .ensures)))
+    (narrow-changes (a .shown) (a .memory .now) (a .marks) (search needs) (a .at) _ _ _ _ (c1 .changed-block .ensures .1) (omega (arith, ap (λ (t : Triple). t .z) (e .attributes-at .ensures), c2 .changed-block2 .ensures .1))
+    (changed-at (a .memory .now) (a .at .x) (a .at .y) (a .at .z) _ _ _ _ (p .place-at .ensures) refl (c1 .changed-block .ensures .0))
+    (changed-at (a .memory .now) (a .at .x) (a .at .y) (attributesAt (a .at) .z) _ _ _ _ (p .place-at .ensures) (omega (arith, ap (λ (t : Triple). t .z) (e .attributes-at .ensures))) (c2 .changed-block2 .ensures .0)))
 
 pub narrow-marks-spec : {M : Type 1} → statement M
 narrow-marks-spec =

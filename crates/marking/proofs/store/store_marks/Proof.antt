@@ -1,8 +1,7 @@
+use mathlib.Core.Logic.{inl}
 use mathlib.Core.Path.{refl, sym, _∙_}
-use native.Mathlib.Omega.{arith}
-use Rattle.address.specs.Boards.{boardBlocks}
 use Rattle.address.proofs.Laws.{legal-page, legal-block}
-use Rattle.marking.proofs.Changes.{here-fits, changed-at, store-changes, changes-none}
+use Rattle.marking.proofs.Changes.{here-fits, changed-fits, changed-at, store-changes, changes-none}
 use borrow.Author.Needs.{needs}
 use Rattle.marking.proofs.store.store_marks.Statement.{statement}
 use Rattle.marking.proofs.store.store_marks.Tie as tie
@@ -18,7 +17,8 @@ place-at-requires c κs = search needs
 
 changed-block-requires : tie.Need-changed-block-requires
 changed-block-requires c κs = let s = c .before .before .before .before in
-    (search needs, here-fits _ _ _ (legal-page boardBlocks (s .args .at) (s .pre .1)) (c .place-at .ensures), legal-block boardBlocks (s .args .at) (s .pre .1))
+    let board = s .args .shown .blocks in
+    (s .pre .0, here-fits board (s .args .at) _ (s .pre .1) (c .place-at .ensures), legal-block board (s .args .at) (s .pre .1))
 
 some-changed-requires : tie.Need-some-changed-requires
 some-changed-requires c κs = search needs
@@ -30,12 +30,14 @@ returns c = let b = c .before .before in
     let a = s .args in
     changes-none (a .shown) (a .memory .now) (a .marks) (search needs) (a .at .x) (a .at .y) _ _ (c .before .some-changed .ensures) (c .if1 .taken)
     ∙ sym
-    (store-changes (a .shown) (a .memory .now) (a .marks) (search needs) (a .at .x) (a .at .y) (a .at .z) _ (omega (arith, legal-block boardBlocks (a .at) (s .pre .1))) _
-    (changed-at (a .memory .now) (a .at .x) (a .at .y) (a .at .z) _ _ _ _ (p .place-at .ensures) refl (b .changed-block .ensures)))
+    (store-changes (a .shown) (a .memory .now) (a .marks) (search needs) (a .at .x) (a .at .y) (a .at .z) _ (b .changed-block .ensures .1) _
+    (changed-at (a .memory .now) (a .at .x) (a .at .y) (a .at .z) _ _ _ _ (p .place-at .ensures) refl (b .changed-block .ensures .0)))
 
 change-marks-requires : tie.Need-change-marks-requires
-change-marks-requires c κs = let s = c .before .before .before .before .before .before .before in
-    (search needs, legal-page boardBlocks (s .args .at) (s .pre .1))
+change-marks-requires c κs = let b = c .before .before in
+    let s = b .before .before .before .before .before in
+    let board = s .args .shown .blocks in
+    (s .pre .0, legal-page board (s .args .at) (s .pre .1), (changed-fits board _ _ _ _ _ (legal-block board (s .args .at) (s .pre .1)) (b .changed-block .ensures .0), inl refl, inl refl))
 
 returns-2 : tie.Need-returns-2
 returns-2 c = let b = c .before .before .before in
@@ -44,8 +46,8 @@ returns-2 c = let b = c .before .before .before in
     let a = s .args in
     c .change-marks .ensures
     ∙ sym
-    (store-changes (a .shown) (a .memory .now) (a .marks) (search needs) (a .at .x) (a .at .y) (a .at .z) _ (omega (arith, legal-block boardBlocks (a .at) (s .pre .1))) _
-    (changed-at (a .memory .now) (a .at .x) (a .at .y) (a .at .z) _ _ _ _ (p .place-at .ensures) refl (b .changed-block .ensures)))
+    (store-changes (a .shown) (a .memory .now) (a .marks) (search needs) (a .at .x) (a .at .y) (a .at .z) _ (b .changed-block .ensures .1) _
+    (changed-at (a .memory .now) (a .at .x) (a .at .y) (a .at .z) _ _ _ _ (p .place-at .ensures) refl (b .changed-block .ensures .0)))
 
 pub store-marks-spec : {M : Type 1} → statement M
 store-marks-spec =

@@ -21,6 +21,12 @@ array-write-bytes-2 c = search needs
 array-write-bytes-3 : tie.Need-array-write-bytes-3
 array-write-bytes-3 c = search needs
 
+board-byte-requires : tie.Need-board-byte-requires
+board-byte-requires c κs = search needs
+
+array-write-bytes-4 : tie.Need-array-write-bytes-4
+array-write-bytes-4 c = search needs
+
 slice-aggregate-put-eight : tie.Need-slice-aggregate-put-eight
 slice-aggregate-put-eight c = search needs
 
@@ -44,7 +50,8 @@ unfolding packed
 returns c = let k = c .before in
     let e = k .before .before .before in
     let d = e .before .before .before in
-    let f = d .before .before .before .before .before in
+    let n = d .before .before .before .before .before in
+    let f = n .before in
     let s = f .before .before in
     let g = s .good .0 .1 .1 in
     let p = s .args .p in
@@ -52,9 +59,9 @@ returns c = let k = c .before in
     let li = length-unmapped _ (p .indirect) 8 (g .1 .0 .1 .0 .1) in
     let lm = length-unmapped _ (p .marks) 25 (g .1 .1 .1 .1 .1 .0 .1 .0 .1) in
     let b =
-    packed-parts p (f .before .flag .result) (f .flag2 .result) _ _ (d .put-eight .last .0) (e .put-eight2 .last .0) (k .put-marks .last .0) lr li lm
-    (f .before .flag .ensures) (f .flag2 .ensures) (d .put-eight .ensures) (e .put-eight2 .ensures) (k .put-marks .ensures) in
-    (b, ap unpacked b ∙ unpacked-packed p (lr, li, lm))
+    packed-parts p (f .before .flag .result) (f .flag2 .result) (n .board-byte .result) _ _ _ (d .put-eight .last .0) (e .put-eight2 .last .0) (k .put-marks .last .0) lr li lm
+    (f .before .flag .ensures) (f .flag2 .ensures) (n .board-byte .ensures) (d .put-eight .ensures) (e .put-eight2 .ensures) (k .put-marks .ensures) in
+    (b, λ board. ap unpacked b ∙ unpacked-packed p (lr, li, lm) board)
 
 pub packed-spec : {M : Type 1} → statement M
 packed-spec =
@@ -65,6 +72,8 @@ packed-spec =
     flag-requires-2
     array-write-bytes-2
     array-write-bytes-3
+    board-byte-requires
+    array-write-bytes-4
     slice-aggregate-put-eight
     put-eight-requires
     slice-aggregate-put-eight-2

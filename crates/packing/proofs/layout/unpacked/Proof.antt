@@ -21,9 +21,16 @@ array-read-t13 c = search needs
 array-read-t17 : tie.Need-array-read-t17
 array-read-t17 c = search needs
 
+array-read-board-of : tie.Need-array-read-board-of
+array-read-board-of c = search needs
+
+board-of-requires : tie.Need-board-of-requires
+board-of-requires c κs = search needs
+
 returns : tie.Need-returns
-returns c = let k = c .before in
-    unpacked-parts _ _ _ _ (k .before .eight-from .ensures) (k .eight-from2 .ensures) (c .marks-from .ensures)
+returns c = let m = c .before in
+    let k = m .before in
+    unpacked-parts _ _ _ _ _ (k .before .eight-from .ensures) (k .eight-from2 .ensures) (m .marks-from .ensures) (c .board-of .ensures)
 
 pub unpacked-spec : {M : Type 1} → statement M
 unpacked-spec =
@@ -35,4 +42,6 @@ unpacked-spec =
     array-read-t9
     array-read-t13
     array-read-t17
+    array-read-board-of
+    board-of-requires
     returns)

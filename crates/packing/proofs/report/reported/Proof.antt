@@ -90,6 +90,9 @@ array-write-bytes-14 c = search needs
 array-write-bytes-15 : tie.Need-array-write-bytes-15
 array-write-bytes-15 c = search needs
 
+array-write-bytes-16 : tie.Need-array-write-bytes-16
+array-write-bytes-16 c = search needs
+
 slice-aggregate-put-marks : tie.Need-slice-aggregate-put-marks
 slice-aggregate-put-marks c = search needs
 
@@ -136,6 +139,7 @@ reported-spec =
     array-read-bytes-13
     array-write-bytes-14
     array-write-bytes-15
+    array-write-bytes-16
     slice-aggregate-put-marks
     put-marks-requires
     returns)

@@ -1,7 +1,7 @@
 use Rattle.basics.specs.Below.{anyBelow}
 use Rattle.basics.proofs.Below.{gathered}
 use Rattle.page.specs.HowHalves.{Within, goesOnIn}
-use Rattle.page.proofs.Stretches.{starts-fit, within-less, goes-on-from}
+use Rattle.page.proofs.Stretches.{compared-fit, compared-on, within-less}
 use native.Mathlib.Omega.{arith}
 use mathlib.Core.Path.{_≡_, refl, ap, _∙_}
 use Prim.Native.Nat.{_+_, _≤_, _-_}
@@ -10,29 +10,31 @@ use Rattle.page.proofs.stretch.some_on.Statement.{statement}
 use Rattle.page.proofs.stretch.some_on.Tie as tie
 
 abbrev Inv-loop : tie.InvT-loop
-Inv-loop memory z y above first n here over found₀ i₀ found i = (i ≤ n) × Within here n × Within over n × (found ≡ anyBelow (λ j. goesOnIn memory z y above (first + j)) i)
+Inv-loop memory z third y above first n here over found₀ i₀ found i = (i ≤ n) × Within memory here n × Within memory over n × (found ≡ anyBelow (λ j. goesOnIn memory z y above (first + j)) i)
 
 abbrev μ-loop : tie.MeasureT-loop
-μ-loop memory z y above first n here over found₀ i₀ found i = n - i
+μ-loop memory z third y above first n here over found₀ i₀ found i = n - i
 
-starts-of-requires : tie.Need-starts-of-requires Inv-loop μ-loop
-starts-of-requires c κs = search needs
+compared-by-requires : tie.Need-compared-by-requires Inv-loop μ-loop
+compared-by-requires c κs = search needs
 
-starts-of-requires-2 : tie.Need-starts-of-requires-2 Inv-loop μ-loop
-starts-of-requires-2 c κs = search needs
+compared-by-requires-2 : tie.Need-compared-by-requires-2 Inv-loop μ-loop
+compared-by-requires-2 c κs = search needs
 
 loop-holds : tie.Need-loop-holds Inv-loop μ-loop
 unfolding anyBelow
-loop-holds c = let p = c .before .before .before .pre in (
-  omega arith,
-  starts-fit _ _ _ _ _ (c .before .starts-of .ensures) (p .1) (p .2) (p .4) (p .5),
-  starts-fit _ _ _ _ _ (c .starts-of2 .ensures) (p .1) (p .3) (p .4) (p .5),
-  refl,
-)
+loop-holds c = let s = c .before .before .before in
+    let p = s .pre in (
+      omega arith,
+      compared-fit (s .args .memory .now) (s .args .z) (s .args .third) (p .0) _ _ _ _ (c .before .compared-by .ensures) (p .1) (p .3) (p .4),
+      compared-fit (s .args .memory .now) (s .args .z) (s .args .third) (p .0) _ _ _ _ (c .compared-by2 .ensures) (p .2) (p .3) (p .4),
+      refl,
+    )
 
 goes-on-at-requires : tie.Need-goes-on-at-requires Inv-loop μ-loop
 goes-on-at-requires c κs = let l = c .before .loop in
-    (search needs, within-less _ _ _ (l .inv .1) (c .loop-test .taken), within-less _ _ _ (l .inv .2) (c .loop-test .taken))
+    let m = c .before .before .before .before .before .args .memory .now in
+    (within-less m _ _ _ (l .inv .1) (c .loop-test .taken), within-less m _ _ _ (l .inv .2) (c .loop-test .taken))
 
 add-i : tie.Need-add-i Inv-loop μ-loop
 add-i c = search needs
@@ -43,13 +45,14 @@ loop-less c = omega arith
 loop-again : tie.Need-loop-again Inv-loop μ-loop
 loop-again c = let l = c .before .before .loop in
     let o = c .before .before .before in
-    let a = o .before .before .before .args in (
+    let s = o .before .before .before in
+    let a = s .args in (
       omega arith,
       l .inv .1,
       l .inv .2,
       gathered _ _ _ _ (l .inv .3)
           (c .goes-on-at .ensures
-          ∙ goes-on-from (a .first) (l .i) (omega arith) (omega arith) (a .memory .now) (a .y) (a .above) (a .z) _ _ (o .before .starts-of .ensures) (o .starts-of2 .ensures)),
+          ∙ compared-on (a .memory .now) (a .z) (a .third) (s .pre .0) (a .first) (l .i) (omega arith) (omega arith) (a .y) (a .above) _ _ (o .before .compared-by .ensures) (o .compared-by2 .ensures)),
     )
 
 returns : tie.Need-returns Inv-loop μ-loop
@@ -63,8 +66,8 @@ some-on-spec =
     (tie.spec
     Inv-loop
     μ-loop
-    starts-of-requires
-    starts-of-requires-2
+    compared-by-requires
+    compared-by-requires-2
     loop-holds
     goes-on-at-requires
     add-i

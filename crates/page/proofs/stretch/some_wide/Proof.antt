@@ -1,9 +1,9 @@
-use Rattle.address.specs.Boards.{boardBlocks, memoryBytes}
+use lib.ListN.{length}
 use Prim.Native.Nat.{_+_, _≤_, _-_}
 use mathlib.Core.Path.{_≡_, refl, ap, _∙_}
 use native.Mathlib.Omega.{arith}
 use Rattle.basics.specs.Below.{anyBelow}
-use Rattle.page.specs.Codes.{codeOf}
+use Rattle.page.specs.HowCodes.{codeOf}
 use Rattle.basics.proofs.Below.{gathered}
 use Rattle.page.specs.Halves.{isWide}
 use Rattle.page.proofs.Stretches.{stretch-fits, stretch-b, wide-test}
@@ -12,7 +12,7 @@ use Rattle.page.proofs.stretch.some_wide.Statement.{statement}
 use Rattle.page.proofs.stretch.some_wide.Tie as tie
 
 abbrev Inv-loop : tie.InvT-loop
-Inv-loop memory z y first n b found₀ i₀ found i = (i ≤ n) × (b + n ≤ memoryBytes) × (found ≡ anyBelow (λ j. isWide (codeOf memory z y (first + j))) i)
+Inv-loop memory z y first n b found₀ i₀ found i = (i ≤ n) × (b + n ≤ length memory) × (found ≡ anyBelow (λ j. isWide (codeOf memory z y (first + j))) i)
 
 abbrev μ-loop : tie.MeasureT-loop
 μ-loop memory z y first n b found₀ i₀ found i = n - i
@@ -22,8 +22,9 @@ start-requires c κs = search needs
 
 loop-holds : tie.Need-loop-holds Inv-loop μ-loop
 unfolding anyBelow
-loop-holds c = let p = c .before .before .pre in
-    (omega arith, stretch-fits boardBlocks _ _ _ _ 1 _ (c .start .ensures) (omega arith) (p .2) (p .3) (p .4), refl)
+loop-holds c = let s = c .before .before in
+    let p = s .pre in
+    (omega arith, stretch-fits (s .args .memory .now) _ _ _ _ 1 _ (c .start .ensures) (p .0) (p .1) (p .2) (p .3), refl)
 
 add-byte : tie.Need-add-byte Inv-loop μ-loop
 add-byte c = search needs

@@ -25,8 +25,8 @@ abbrev μ-loop : tie.MeasureT-loop
 element-copy-out-service : tie.Need-element-copy-out-service Inv-loop μ-loop
 element-copy-out-service c = search needs
 
-service-flashes-requires : tie.Need-service-flashes-requires Inv-loop μ-loop
-service-flashes-requires c κs = search needs
+service-is-marked-or-flashes-requires : tie.Need-service-is-marked-or-flashes-requires Inv-loop μ-loop
+service-is-marked-or-flashes-requires c κs = search needs
 
 element-write-marks : tie.Need-element-write-marks Inv-loop μ-loop
 element-write-marks c = search needs
@@ -35,7 +35,7 @@ loop-holds : tie.Need-loop-holds Inv-loop μ-loop
 loop-holds c = let b = c .before .before .before in
     let s = b .args in
     let f : ℕ → Bool = λ r. flashAt (s .memory .now) (s .z) (rowY (s .yor) r) in
-    (omega arith, up-begins f (s .marks .now) (λ i. i) 1 _ (begun-by-row f (s .marks .now) _ _ (b .pre .0) (c .service-flashes .ensures ∙ ap (flashAt (s .memory .now) (s .z)) (sym (row-service (s .yor) 0 refl))) refl))
+    (omega arith, up-begins f (s .marks .now) (λ i. i) 1 _ (begun-by-row f (s .marks .now) _ _ (b .pre .0) (ap (flashAt (s .memory .now) (s .z)) (sym (row-service (s .yor) 0 refl))) (c .service-is-marked-or-flashes .ensures)))
 
 mul-r : tie.Need-mul-r Inv-loop μ-loop
 mul-r c = search needs
@@ -56,7 +56,7 @@ row-y-requires : tie.Need-row-y-requires Inv-loop μ-loop
 row-y-requires c κs = search needs
 
 are-quiet-requires : tie.Need-are-quiet-requires Inv-loop μ-loop
-are-quiet-requires c κs = (search needs, search needs, omega (arith, row-from-one (c .before .before .before .before .before .before .before .args .yor) (1 + 4 * c .before .before .before .loop .g) (λ e. omega arith)))
+are-quiet-requires c κs = (search needs, omega (arith, row-from-one (c .before .before .before .before .before .before .before .args .yor) (1 + 4 * c .before .before .before .loop .g) (λ e. omega arith)))
 
 four-flash-requires : tie.Need-four-flash-requires Inv-loop μ-loop
 four-flash-requires c κs = (ap length (c .before .before .before .before .before .before .loop .inv .1) ∙ marked-long _ _, search needs, search needs, omega arith)
@@ -81,7 +81,7 @@ returns c = let l = c .before in
     let b = i .before .before .before in
     let s = b .args in
     let f : ℕ → Bool = λ r. flashAt (s .memory .now) (s .z) (rowY (s .yor) r) in
-    up-ends f (s .marks .now) (λ i. i) 1 _ (begun-by-row f (s .marks .now) _ _ (b .pre .0) (i .service-flashes .ensures ∙ ap (flashAt (s .memory .now) (s .z)) (sym (row-service (s .yor) 0 refl))) refl) _ (up-end f _ (λ i. i) _ _ (l .loop .inv .1) (λ i h. omega arith))
+    up-ends f (s .marks .now) (λ i. i) 1 _ (begun-by-row f (s .marks .now) _ _ (b .pre .0) (ap (flashAt (s .memory .now) (s .z)) (sym (row-service (s .yor) 0 refl))) (i .service-is-marked-or-flashes .ensures)) _ (up-end f _ (λ i. i) _ _ (l .loop .inv .1) (λ i h. omega arith))
 
 pub flash-in-spec : {M : Type 1} → statement M
 flash-in-spec =
@@ -90,7 +90,7 @@ flash-in-spec =
     Inv-loop
     μ-loop
     element-copy-out-service
-    service-flashes-requires
+    service-is-marked-or-flashes-requires
     element-write-marks
     loop-holds
     mul-r

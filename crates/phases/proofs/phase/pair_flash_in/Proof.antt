@@ -30,7 +30,7 @@ row-y-requires : tie.Need-row-y-requires Inv-loop μ-loop
 row-y-requires c κs = search needs
 
 is-marked-or-pair-flashes-requires : tie.Need-is-marked-or-pair-flashes-requires Inv-loop μ-loop
-is-marked-or-pair-flashes-requires c κs = (search needs, search needs, rw (c .row-y .ensures) (row-small _ _))
+is-marked-or-pair-flashes-requires c κs = (search needs, search needs, search needs, rw (c .row-y .ensures) (row-small _ _))
 
 element-write-marks : tie.Need-element-write-marks Inv-loop μ-loop
 element-write-marks c = search needs

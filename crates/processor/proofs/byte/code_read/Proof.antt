@@ -1,5 +1,3 @@
-use Rattle.address.specs.Boards.{boardDistricts}
-use Rattle.address.proofs.Places.{legal-block-at}
 use Rattle.processor.specs.Bytes.{codeRead}
 use borrow.Author.Needs.{needs}
 use Rattle.processor.proofs.byte.code_read.Statement.{statement}
@@ -9,19 +7,19 @@ block-at-requires : tie.Need-block-at-requires
 block-at-requires c κs = search needs
 
 load-requires : tie.Need-load-requires
-load-requires c κs = let s = c .before .before in (search needs, legal-block-at boardDistricts _ _ _ (c .block-at .ensures) (s .pre .1))
+load-requires c κs = let s = c .before .before in (search needs, rw (c .block-at .ensures) (s .pre .1))
 
 block-at-requires-2 : tie.Need-block-at-requires-2
 block-at-requires-2 c κs = search needs
 
 load-requires-2 : tie.Need-load-requires-2
-load-requires-2 c κs = let s = c .before .before .before .before in (search needs, legal-block-at boardDistricts _ _ _ (c .block-at2 .ensures) (s .pre .1))
+load-requires-2 c κs = let s = c .before .before .before .before in (search needs, rw (c .block-at2 .ensures) (s .pre .2))
 
 block-at-requires-3 : tie.Need-block-at-requires-3
 block-at-requires-3 c κs = search needs
 
 load-requires-3 : tie.Need-load-requires-3
-load-requires-3 c κs = let s = c .before .before .before .before .before .before in (search needs, legal-block-at boardDistricts _ _ _ (c .block-at3 .ensures) (s .pre .1))
+load-requires-3 c κs = let s = c .before .before .before .before .before .before in (search needs, rw (c .block-at3 .ensures) (s .pre .3))
 
 with-register-requires : tie.Need-with-register-requires
 with-register-requires c κs = search needs

@@ -1,7 +1,7 @@
 use lib.ListN.{length-set}
 use mathlib.Core.Path.{refl}
 use native.Mathlib.Omega.{arith}
-use Rattle.address.specs.Boards.{memoryBytes}
+use Rattle.address.specs.Boards.{bytesOf}
 use Rattle.processor.specs.States.{chip}
 use Rattle.processor.proofs.Ways.{code-within, code-place, code-stored}
 use borrow.Author.Needs.{needs}
@@ -21,7 +21,9 @@ shown-requires : tie.Need-shown-requires
 shown-requires c κs = search needs
 
 code-marks-requires : tie.Need-code-marks-requires
-code-marks-requires c κs = search needs
+code-marks-requires c κs = let h = c .before in
+    let s = h .before .before .before .before .before .before in
+    (rw (h .shown .ensures) (s .pre .0), rw (h .shown .ensures) (s .pre .1), rw (h .shown .ensures) (s .pre .2), rw (h .shown .ensures) (s .pre .3))
 
 cast-place-at : tie.Need-cast-place-at
 cast-place-at c = search needs
@@ -43,11 +45,11 @@ mul-memory c = search needs
 
 add-memory : tie.Need-add-memory
 add-memory c = let s = c .before .before .before .before .before .before .before .before .before .before .before .before in
-    omega (arith, code-within (s .args .at) 0 _ _ memoryBytes (c .before .place-at .ensures) (c .block .ensures) (s .pre .1) refl)
+    omega (arith, code-within (s .args .t1 .blocks) (s .args .at) 0 _ _ (bytesOf (s .args .t1 .blocks)) (c .before .place-at .ensures) (c .block .ensures) (s .pre .1) refl)
 
 slice-write-memory : tie.Need-slice-write-memory
 slice-write-memory c = let s = c .before .before .before .before .before .before .before .before .before .before .before .before in
-    code-within (s .args .at) 0 _ _ _ (c .before .place-at .ensures) (c .block .ensures) (s .pre .1) (s .pre .0)
+    code-within _ (s .args .at) 0 _ _ _ (c .before .place-at .ensures) (c .block .ensures) (s .pre .1) (s .pre .0)
 
 block-requires-2 : tie.Need-block-requires-2
 block-requires-2 c κs = search needs
@@ -60,11 +62,11 @@ mul-memory-2 c = search needs
 
 add-memory-2 : tie.Need-add-memory-2
 add-memory-2 c = let s = c .before .before .before .before .before .before .before .before .before .before .before .before .before in
-    omega (arith, code-within (s .args .at) 1 _ _ memoryBytes (c .before .before .place-at .ensures) (c .block2 .ensures) (s .pre .1) refl)
+    omega (arith, code-within (s .args .t1 .blocks) (s .args .at) 1 _ _ (bytesOf (s .args .t1 .blocks)) (c .before .before .place-at .ensures) (c .block2 .ensures) (s .pre .2) refl)
 
 slice-write-memory-2 : tie.Need-slice-write-memory-2
 slice-write-memory-2 c = let s = c .before .before .before .before .before .before .before .before .before .before .before .before .before in
-    code-within (s .args .at) 1 _ _ _ (c .before .before .place-at .ensures) (c .block2 .ensures) (s .pre .1) (search needs)
+    code-within _ (s .args .at) 1 _ _ _ (c .before .before .place-at .ensures) (c .block2 .ensures) (s .pre .2) (search needs)
 
 block-requires-3 : tie.Need-block-requires-3
 block-requires-3 c κs = search needs
@@ -77,11 +79,11 @@ mul-memory-3 c = search needs
 
 add-memory-3 : tie.Need-add-memory-3
 add-memory-3 c = let s = c .before .before .before .before .before .before .before .before .before .before .before .before .before .before in
-    omega (arith, code-within (s .args .at) 2 _ _ memoryBytes (c .before .before .before .place-at .ensures) (c .block3 .ensures) (s .pre .1) refl)
+    omega (arith, code-within (s .args .t1 .blocks) (s .args .at) 2 _ _ (bytesOf (s .args .t1 .blocks)) (c .before .before .before .place-at .ensures) (c .block3 .ensures) (s .pre .3) refl)
 
 slice-write-memory-3 : tie.Need-slice-write-memory-3
 slice-write-memory-3 c = let s = c .before .before .before .before .before .before .before .before .before .before .before .before .before .before in
-    code-within (s .args .at) 2 _ _ _ (c .before .before .before .place-at .ensures) (c .block3 .ensures) (s .pre .1) (simp length-set (s .pre .0))
+    code-within _ (s .args .at) 2 _ _ _ (c .before .before .before .place-at .ensures) (c .block3 .ensures) (s .pre .3) (simp length-set (s .pre .0))
 
 same-length : tie.Need-same-length
 same-length c = search needs

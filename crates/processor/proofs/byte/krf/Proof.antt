@@ -1,3 +1,4 @@
+use Rattle.address.proofs.Places.{legal-x}
 use Rattle.processor.proofs.Laws.{x-after-code-read, x-after-code-stored}
 use Rattle.processor.specs.States.{Chip}
 use Rattle.processor.specs.Bytes.{krf}
@@ -13,11 +14,17 @@ cleared-requires : tie.Need-cleared-requires
 cleared-requires c κs = search needs
 
 code-read-requires : tie.Need-code-read-requires
-code-read-requires c κs = let p = c .before .before .before in (search needs, rw (p .pointer .ensures) (p .before .before .pre .1))
+code-read-requires c κs = let f = c .before .before in
+    let s = f .before .before .before in (
+      rw (f .cleared .ensures) (s .pre .0),
+      rw (f .cleared .ensures, f .before .pointer .ensures) (s .pre .1),
+      rw (f .cleared .ensures, f .before .pointer .ensures) (s .pre .2),
+      rw (f .cleared .ensures, f .before .pointer .ensures) (s .pre .3),
+    )
 
 increment-if-requires : tie.Need-increment-if-requires
 increment-if-requires c κs = let f = c .before .before .before in
-    x-after-code-read _ _ _ _ (f .cleared .ensures) (f .before .before .before .pre .1) _ _ (c .code-read .ensures)
+    x-after-code-read _ _ _ _ (f .cleared .ensures) (legal-x _ _ (f .before .before .before .pre .1)) _ _ (c .code-read .ensures)
 
 same-length : tie.Need-same-length
 same-length c = search needs
@@ -30,12 +37,18 @@ returns c = let l = c .before in
     rw (t .if1 .taken, c .increment-if .ensures, l .code-read .ensures, f .cleared .ensures, f .before .pointer .ensures)
 
 code-stored-requires : tie.Need-code-stored-requires
-code-stored-requires c κs = let p = c .before .before .before in (search needs, rw (p .pointer .ensures) (p .before .before .pre .1))
+code-stored-requires c κs = let f = c .before .before in
+    let s = f .before .before .before in (
+      rw (f .cleared .ensures) (s .pre .0),
+      rw (f .cleared .ensures, f .before .pointer .ensures) (s .pre .1),
+      rw (f .cleared .ensures, f .before .pointer .ensures) (s .pre .2),
+      rw (f .cleared .ensures, f .before .pointer .ensures) (s .pre .3),
+    )
 
 increment-if-requires-2 : tie.Need-increment-if-requires-2
 increment-if-requires-2 c κs = let t = c .before .before in
     let f = t .before .before .before in
-    x-after-code-stored _ _ _ _ (f .cleared .ensures) (f .before .before .before .pre .1) _ _ _ (t .code-stored .ensures)
+    x-after-code-stored _ _ _ _ (f .cleared .ensures) (legal-x _ _ (f .before .before .before .pre .1)) _ _ _ (t .code-stored .ensures)
 
 same-length-2 : tie.Need-same-length-2
 same-length-2 c = search needs

@@ -1,3 +1,4 @@
+use Rattle.address.proofs.Places.{legal-x}
 use Rattle.processor.proofs.Laws.{x-after-load, x-after-store}
 use Rattle.processor.specs.States.{chip}
 use Rattle.processor.proofs.Ways.{oct-loaded, oct-stored}
@@ -19,7 +20,7 @@ with-register-requires c κs = search needs
 
 increment-if-requires : tie.Need-increment-if-requires
 increment-if-requires c κs = let f = c .before .before .before .before in
-    x-after-load _ _ _ _ (f .cleared .ensures) (f .before .before .before .pre .1) _ (c .with-register .ensures)
+    x-after-load _ _ _ _ (f .cleared .ensures) (legal-x _ _ (f .before .before .before .pre .1)) _ (c .with-register .ensures)
 
 same-length : tie.Need-same-length
 same-length c = search needs
@@ -35,12 +36,14 @@ element-copy-out-r1 : tie.Need-element-copy-out-r1
 element-copy-out-r1 c = search needs
 
 store-requires : tie.Need-store-requires
-store-requires c κs = let p = c .before .before .before .before in (search needs, rw (p .pointer .ensures) (p .before .before .pre .1))
+store-requires c κs = let f = c .before .before .before in
+    let s = f .before .before .before in
+    (rw (f .cleared .ensures) (s .pre .0), rw (f .cleared .ensures, f .before .pointer .ensures) (s .pre .1))
 
 increment-if-requires-2 : tie.Need-increment-if-requires-2
 increment-if-requires-2 c κs = let t = c .before .before in
     let f = t .before .before .before .before in
-    x-after-store _ _ _ _ (f .cleared .ensures) (f .before .before .before .pre .1) _ _ _ _ (t .store .ensures)
+    x-after-store _ _ _ _ (f .cleared .ensures) (legal-x _ _ (f .before .before .before .pre .1)) _ _ _ _ (t .store .ensures)
 
 same-length-2 : tie.Need-same-length-2
 same-length-2 c = search needs

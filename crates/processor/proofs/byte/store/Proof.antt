@@ -9,14 +9,16 @@ shown-requires : tie.Need-shown-requires
 shown-requires c κs = search needs
 
 store-marks-requires : tie.Need-store-marks-requires
-store-marks-requires c κs = search needs
+store-marks-requires c κs = let h = c .before in
+    let s = h .before .before .before in
+    (rw (h .shown .ensures) (s .pre .0), rw (h .shown .ensures) (s .pre .1))
 
 place-requires : tie.Need-place-requires
 place-requires c κs = search needs
 
 slice-write-memory : tie.Need-slice-write-memory
 slice-write-memory c = let s = c .before .before .before .before .before .before in
-    omega (arith, place-fits-in _ (s .args .at) _ (c .place .ensures) (s .pre .1))
+    omega (arith, place-fits-in (s .args .p .blocks) (s .args .at) _ (c .place .ensures) (s .pre .1))
 
 same-length : tie.Need-same-length
 same-length c = search needs

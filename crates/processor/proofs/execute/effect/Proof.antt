@@ -1,5 +1,5 @@
 use native.Mathlib.Nat.{mod-eq-of-lt}
-use borrow.Author.Tests.{not-false}
+use Rattle.address.proofs.Fits.{byte-legal, code-legal, narrow-legal}
 use borrow.Author.Needs.{needs}
 use Rattle.processor.proofs.execute.effect.Statement.{statement}
 use Rattle.processor.proofs.execute.effect.Tie as tie
@@ -17,19 +17,31 @@ enum-known-command-2 : tie.Need-enum-known-command-2
 enum-known-command-2 c = search needs
 
 krf-requires : tie.Need-krf-requires
-krf-requires c κs = (search needs, not-false _ (rw (c .before .before .command2 .given .1) at (c .before .before .before .before .before .pre .2)))
+krf-requires c κs =
+    let g = c .before .before .command2 .given .1 in
+    let s = c .before .before .before .before .before in
+    let l = code-legal _ _ (rw g at (s .pre .2)) (rw g at (s .pre .3)) in
+    (s .pre .0, l .0, l .1, l .2)
 
 enum-known-command-3 : tie.Need-enum-known-command-3
 enum-known-command-3 c = search needs
 
 oct-requires : tie.Need-oct-requires
-oct-requires c κs = (search needs, not-false _ (rw (c .before .before .command3 .given .1) at (c .before .before .before .before .before .pre .2)))
+oct-requires c κs =
+    let g = c .before .before .command3 .given .1 in
+    let s = c .before .before .before .before .before in
+    let l = byte-legal _ _ (rw g at (s .pre .2)) (rw g at (s .pre .3)) in
+    (s .pre .0, l)
 
 enum-known-command-4 : tie.Need-enum-known-command-4
 enum-known-command-4 c = search needs
 
 krl-requires : tie.Need-krl-requires
-krl-requires c κs = (search needs, not-false _ (rw (c .before .before .command4 .given .1) at (c .before .before .before .before .before .pre .2)))
+krl-requires c κs =
+    let g = c .before .before .command4 .given .1 in
+    let s = c .before .before .before .before .before in
+    let l = narrow-legal _ _ (rw g at (s .pre .2)) (rw g at (s .pre .3)) in
+    (s .pre .0, l .0, l .1)
 
 enum-told-2 : tie.Need-enum-told-2
 enum-told-2 c = search needs

@@ -1,4 +1,5 @@
-use mathlib.Core.Path.{refl}
+use Rattle.address.proofs.Fits.{byte-illegal, code-illegal, narrow-illegal}
+use mathlib.Core.Path.{refl, sym}
 use borrow.Author.Needs.{needs}
 use Rattle.processor.proofs.execute.is_astray.Statement.{statement}
 use Rattle.processor.proofs.execute.is_astray.Tie as tie
@@ -46,13 +47,13 @@ returns-2 : tie.Need-returns-2
 returns-2 c = rw (c .enum-told2 .given .1) refl
 
 returns-3 : tie.Need-returns-3
-returns-3 c = rw (c .before .before .enum-told3 .given .1, c .is-legal .ensures, c .before .pointer .ensures)
+returns-3 c = rw (c .before .before .enum-told3 .given .1, c .is-legal .ensures, c .before .pointer .ensures) (sym (code-illegal _ _))
 
 returns-4 : tie.Need-returns-4
-returns-4 c = rw (c .before .before .before .command .given .1, c .is-legal2 .ensures, c .before .pointer2 .ensures)
+returns-4 c = rw (c .before .before .before .command .given .1, c .is-legal2 .ensures, c .before .pointer2 .ensures) (sym (byte-illegal _ _))
 
 returns-5 : tie.Need-returns-5
-returns-5 c = rw (c .before .before .enum-told4 .given .1, c .is-legal3 .ensures, c .before .pointer3 .ensures)
+returns-5 c = rw (c .before .before .enum-told4 .given .1, c .is-legal3 .ensures, c .before .pointer3 .ensures) (sym (narrow-illegal _ _))
 
 returns-6 : tie.Need-returns-6
 returns-6 c = rw (c .enum-told5 .given .1) refl

@@ -20,18 +20,39 @@ returns-2 : tie.Need-returns-2
 unfolding ran
 returns-2 c = rw (sym (c .before .before .before .is-unlisted .ensures) ∙ c .before .before .if1 .left, sym (c .before .is-astray .ensures) ∙ c .if2 .taken) refl
 
+is-unfitted-requires : tie.Need-is-unfitted-requires
+is-unfitted-requires c κs = sym (c .before .is-astray .ensures) ∙ c .if2 .left
+
+returns-3 : tie.Need-returns-3
+unfolding ran
+returns-3 c = let e = c .before .before in
+    rw (
+      sym (e .before .before .before .is-unlisted .ensures) ∙ e .before .before .if1 .left,
+      sym (e .before .is-astray .ensures) ∙ e .if2 .left,
+      sym (c .before .is-unfitted .ensures) ∙ c .if3 .taken,
+    )
+    refl
+
 effect-requires : tie.Need-effect-requires
-effect-requires c κs = (search needs, c .before .before .before .before .before .before .pre .1, sym (c .before .before .is-astray .ensures) ∙ c .before .if2 .left)
+effect-requires c κs = let u = c .before in
+    let e = u .before .before in
+    let s = e .before .before .before .before .before in
+    (s .pre .0, s .pre .1, sym (e .before .is-astray .ensures) ∙ e .if2 .left, sym (u .before .is-unfitted .ensures) ∙ u .if3 .left)
 
 same-length : tie.Need-same-length
 same-length c = search needs
 
-returns-3 : tie.Need-returns-3
+returns-4 : tie.Need-returns-4
 unfolding ran
-returns-3 c = let b = c .before .before in
-    let e = b .before .before in
+returns-4 c = let b = c .before .before in
+    let u = b .before .before in
+    let e = u .before .before in
     let s = e .before .before .before .before .before in
-    rw (sym (e .before .before .before .is-unlisted .ensures) ∙ e .before .before .if1 .left, sym (e .before .is-astray .ensures) ∙ e .if2 .left)
+    rw (
+      sym (e .before .before .before .is-unlisted .ensures) ∙ e .before .before .if1 .left,
+      sym (e .before .is-astray .ensures) ∙ e .if2 .left,
+      sym (u .before .is-unfitted .ensures) ∙ u .if3 .left,
+    )
     (ap (λ (k : Chip). outcome k (Accepted (s .args .value))) (b .effect .ensures))
 
 pub run-command-spec : {M : Type 1} → statement M
@@ -42,6 +63,8 @@ run-command-spec =
     returns
     is-astray-requires
     returns-2
+    is-unfitted-requires
+    returns-3
     effect-requires
     same-length
-    returns-3)
+    returns-4)

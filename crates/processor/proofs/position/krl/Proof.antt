@@ -12,7 +12,12 @@ cleared-requires : tie.Need-cleared-requires
 cleared-requires c κs = search needs
 
 narrow-read-requires : tie.Need-narrow-read-requires
-narrow-read-requires c κs = let p = c .before .before .before in (search needs, rw (p .pointer .ensures) (p .before .before .pre .1))
+narrow-read-requires c κs = let f = c .before .before in
+    let s = f .before .before .before in (
+      rw (f .cleared .ensures) (s .pre .0),
+      rw (f .cleared .ensures, f .before .pointer .ensures) (s .pre .1),
+      rw (f .cleared .ensures, f .before .pointer .ensures) (s .pre .2),
+    )
 
 advance-if-requires : tie.Need-advance-if-requires
 advance-if-requires c κs = search needs
@@ -28,7 +33,12 @@ returns c = let l = c .before in
     rw (t .if1 .taken, c .advance-if .ensures, l .narrow-read .ensures, f .cleared .ensures, f .before .pointer .ensures)
 
 narrow-stored-requires : tie.Need-narrow-stored-requires
-narrow-stored-requires c κs = let p = c .before .before .before in (search needs, rw (p .pointer .ensures) (p .before .before .pre .1))
+narrow-stored-requires c κs = let f = c .before .before in
+    let s = f .before .before .before in (
+      rw (f .cleared .ensures) (s .pre .0),
+      rw (f .cleared .ensures, f .before .pointer .ensures) (s .pre .1),
+      rw (f .cleared .ensures, f .before .pointer .ensures) (s .pre .2),
+    )
 
 advance-if-requires-2 : tie.Need-advance-if-requires-2
 advance-if-requires-2 c κs = search needs

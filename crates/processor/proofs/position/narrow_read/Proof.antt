@@ -1,5 +1,3 @@
-use Rattle.address.specs.Boards.{boardDistricts}
-use Rattle.address.proofs.Positions.{legal-attributes-at}
 use Rattle.processor.specs.Bytes.{narrowRead}
 use borrow.Author.Needs.{needs}
 use Rattle.processor.proofs.position.narrow_read.Statement.{statement}
@@ -12,7 +10,7 @@ attributes-at-requires : tie.Need-attributes-at-requires
 attributes-at-requires c κs = search needs
 
 load-requires-2 : tie.Need-load-requires-2
-load-requires-2 c κs = let s = c .before .before .before in (search needs, legal-attributes-at boardDistricts _ (s .pre .1) _ (c .attributes-at .ensures))
+load-requires-2 c κs = let s = c .before .before .before in (search needs, rw (c .attributes-at .ensures) (s .pre .2))
 
 with-register-requires : tie.Need-with-register-requires
 with-register-requires c κs = search needs

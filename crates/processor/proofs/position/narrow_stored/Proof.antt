@@ -1,8 +1,6 @@
 use lib.ListN.{length-set}
 use native.Mathlib.Omega.{arith}
-use Rattle.address.specs.Boards.{boardDistricts}
 use Rattle.address.proofs.Places.{place-fits-in}
-use Rattle.address.proofs.Positions.{legal-attributes-at}
 use Rattle.processor.specs.States.{chip}
 use Rattle.processor.proofs.Ways.{narrow-stored}
 use borrow.Author.Needs.{needs}
@@ -22,7 +20,7 @@ is-odd-requires : tie.Need-is-odd-requires
 is-odd-requires c κs = search needs
 
 load-requires : tie.Need-load-requires
-load-requires c κs = let s = c .before .before .before .before .before .before in (search needs, legal-attributes-at boardDistricts _ (s .pre .1) _ (c .before .before .attributes-at .ensures))
+load-requires c κs = let s = c .before .before .before .before .before .before in (search needs, rw (c .before .before .attributes-at .ensures) (s .pre .2))
 
 nibble-into-requires : tie.Need-nibble-into-requires
 nibble-into-requires c κs = search needs
@@ -31,7 +29,9 @@ shown-requires : tie.Need-shown-requires
 shown-requires c κs = search needs
 
 narrow-marks-requires : tie.Need-narrow-marks-requires
-narrow-marks-requires c κs = search needs
+narrow-marks-requires c κs = let h = c .before in
+    let s = h .before .before .before .before .before .before .before .before .before .before in
+    (rw (h .shown .ensures) (s .pre .0), rw (h .shown .ensures) (s .pre .1), rw (h .shown .ensures) (s .pre .2))
 
 place-requires : tie.Need-place-requires
 place-requires c κs = search needs
@@ -41,13 +41,13 @@ place-requires-2 c κs = search needs
 
 slice-write-memory : tie.Need-slice-write-memory
 slice-write-memory c = let s = c .before .before .before .before .before .before .before .before .before .before .before .before .before .before in
-    omega (arith, place-fits-in _ (s .args .at) _ (c .before .place .ensures) (s .pre .1))
+    omega (arith, place-fits-in (s .args .t1 .blocks) (s .args .at) _ (c .before .place .ensures) (s .pre .1))
 
 slice-write-memory-2 : tie.Need-slice-write-memory-2
 slice-write-memory-2 c = let t = c .before .before .before .before .before .before .before .before .before .before in
     let s = t .before .before .before .before in
     simp length-set
-    (omega (arith, place-fits-in _ (t .attributes-at .result) _ (c .place2 .ensures) (legal-attributes-at boardDistricts _ (s .pre .1) _ (t .attributes-at .ensures))))
+    (omega (arith, place-fits-in (s .args .t1 .blocks) (t .attributes-at .result) _ (c .place2 .ensures) (rw (t .attributes-at .ensures) (s .pre .2))))
 
 same-length : tie.Need-same-length
 same-length c = search needs

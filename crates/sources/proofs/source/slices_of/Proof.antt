@@ -1,4 +1,4 @@
-use Rattle.sources.proofs.SliceSources.{rom-fitting, block-fitting, slices-rom, slices-kept}
+use Rattle.sources.proofs.SliceSources.{rom-fitting, slices-rom, slices-kept}
 use mathlib.Core.Path.{_∙_}
 use borrow.Author.Needs.{needs}
 use Rattle.sources.proofs.source.slices_of.Statement.{statement}
@@ -21,8 +21,7 @@ enum-known-source-2 : tie.Need-enum-known-source-2
 enum-known-source-2 c = search needs
 
 kept-slices-requires : tie.Need-kept-slices-requires
-kept-slices-requires c κs = let s = c .before .before .before in
-    (search needs, block-fitting (s .before .before .before .before .args .shown) (s .before .before .before .before .args .cell) _ _ (s .cell-source .ensures) (c .before .source2 .given .1))
+kept-slices-requires c κs = search needs
 
 returns : tie.Need-returns
 returns c = let s = c .before .before .before .before in

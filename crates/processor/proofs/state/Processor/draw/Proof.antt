@@ -6,18 +6,21 @@ use borrow.Author.Needs.{needs}
 use Rattle.processor.proofs.state.Processor.draw.Statement.{statement}
 use Rattle.processor.proofs.state.Processor.draw.Tie as tie
 
+bytes-of-requires : tie.Need-bytes-of-requires
+bytes-of-requires c κs = search needs
+
 refused-requires : tie.Need-refused-requires
 refused-requires c κs = search needs
 
 returns : tie.Need-returns
-returns c = rw (c .refused .ensures) (draw-memory-refused _ _ _ _ (c .before .if1 .taken))
+returns c = rw (c .refused .ensures) (draw-memory-refused _ _ _ _ (rw (c .before .before .bytes-of .ensures) at (c .before .if1 .taken)))
 
 refused-requires-2 : tie.Need-refused-requires-2
 refused-requires-2 c κs = search needs
 
 returns-2 : tie.Need-returns-2
 returns-2 c = let t = c .before in
-    rw (c .refused2 .ensures) (rom-refused _ _ _ _ (t .before .if1 .left) (t .if2 .taken))
+    rw (c .refused2 .ensures) (rom-refused _ _ _ _ (t .before .if1 .left ∙ t .before .before .bytes-of .ensures) (t .if2 .taken))
 
 shown-requires : tie.Need-shown-requires
 shown-requires c κs = search needs
@@ -33,7 +36,7 @@ returns-3 c = let t = c .before in
     let q = t .before in
     let h = q .before in
     let e = h .before in
-    rw (c .refused3 .ensures) (draw-refused-7 _ _ _ _ (e .before .if1 .left) (e .if2 .left) _ (h .shown .ensures) _ (q .picture-asked .ensures) (t .if3 .taken))
+    rw (c .refused3 .ensures) (draw-refused-7 _ _ _ _ (e .before .if1 .left ∙ e .before .before .bytes-of .ensures) (e .if2 .left) _ (h .shown .ensures) _ (q .picture-asked .ensures) (t .if3 .taken))
 
 refused-requires-4 : tie.Need-refused-requires-4
 refused-requires-4 c κs = search needs
@@ -45,7 +48,7 @@ returns-4 c = let t = c .before in
     let h = q .before in
     let e = h .before in
     rw (c .refused4 .ensures)
-    (picture-refused _ _ _ _ (e .before .if1 .left) (e .if2 .left) _ (h .shown .ensures) _ (q .picture-asked .ensures) (g .if3 .left) (t .if4 .taken))
+    (picture-refused _ _ _ _ (e .before .if1 .left ∙ e .before .before .bytes-of .ensures) (e .if2 .left) _ (h .shown .ensures) _ (q .picture-asked .ensures) (g .if3 .left) (t .if4 .taken))
 
 is-refused-8-requires : tie.Need-is-refused-8-requires
 is-refused-8-requires c κs = search needs
@@ -62,13 +65,15 @@ returns-5 c = let t = c .before in
     let h = q .before in
     let e = h .before in
     rw (c .refused5 .ensures)
-    (draw-refused-8 _ _ _ _ (e .before .if1 .left) (e .if2 .left) _ (h .shown .ensures) _ (q .picture-asked .ensures) (g .if3 .left)
+    (draw-refused-8 _ _ _ _ (e .before .if1 .left ∙ e .before .before .bytes-of .ensures) (e .if2 .left) _ (h .shown .ensures) _ (q .picture-asked .ensures) (g .if3 .left)
     (f .if4 .left) _ (o .is-refused-8 .ensures) (t .if5 .taken))
 
 redraw-requires : tie.Need-redraw-requires
 redraw-requires c κs = let f = c .before .before .before .before in
     let g = f .before in
-    (f .if4 .left ∙ asked-length _ _ (g .before .picture-asked .ensures) (g .if3 .left), search needs, search needs)
+    let h = g .before .before in
+    let w = h .before .before in
+    (f .if4 .left ∙ asked-length _ _ (g .before .picture-asked .ensures) (g .if3 .left), rw (h .shown .ensures) (w .if1 .left ∙ w .before .bytes-of .ensures), search needs)
 
 same-length : tie.Need-same-length
 same-length c = search needs
@@ -83,13 +88,14 @@ returns-6 c = let r = c .before .before .before in
     let q = g .before in
     let h = q .before in
     let e = h .before in
-    draw-done _ _ _ _ (e .before .if1 .left) (e .if2 .left) _ (h .shown .ensures) _ (q .picture-asked .ensures) (g .if3 .left)
+    draw-done _ _ _ _ (e .before .if1 .left ∙ e .before .before .bytes-of .ensures) (e .if2 .left) _ (h .shown .ensures) _ (q .picture-asked .ensures) (g .if3 .left)
     (f .if4 .left) _ (o .is-refused-8 .ensures) (t .if5 .left) _ _ (r .redraw .ensures .0) (r .redraw .ensures .1)
 
 pub draw-spec : {M : Type 1} → statement M
 draw-spec =
     tie.close
     (tie.spec
+    bytes-of-requires
     refused-requires
     returns
     refused-requires-2
