@@ -7,7 +7,11 @@
  * processor that the call before it left. Another picture may be lent to a draw whenever every row is marked, as after a change of TGS: a
  * page of 80 columns has a longer picture than one of 40.
  *
- * Answers. write, read, turn and draw answer 65,536 * number + value, the value having 16 bits. Number 0 is accepted; any other is a
+ * Boards. The private memory has 2, 8 or 16 blocks of 1,024 bytes. The board is chosen at power-up and stays; each call is then lent as
+ * many bytes as it has. A byte of a block that the board does not have is not fitted: a draw takes it as 0, and a command that would
+ * store or read one is refused.
+ *
+ * Answers. power_up_board, write, read, turn and draw answer 65,536 * number + value, the value having 16 bits. Number 0 is accepted; any other is a
  * refusal, by its number below. The value of an accepted read is the register's, that of an accepted draw the rows redrawn, and every
  * other value of an accepted call is 0. binturamis_number and binturamis_value take an answer apart.
  *
@@ -27,16 +31,25 @@
 
 /* The version of the library and of this header. */
 #define BINTURAMIS_VERSION_MAJOR 0u
-#define BINTURAMIS_VERSION_MINOR 4u
+#define BINTURAMIS_VERSION_MINOR 5u
 #define BINTURAMIS_VERSION_PATCH 0u
-#define BINTURAMIS_VERSION "0.4.0"
+#define BINTURAMIS_VERSION "0.5.0"
 
-/* The bytes of each thing that is lent. The picture has these in 40 columns, and BINTURAMIS_80_PICTURE_BYTES in 80. */
+/*
+ * The bytes of each thing that is lent. The memory has these on the board of 16 blocks, and BINTURAMIS_BLOCK_BYTES times the blocks on
+ * another. The picture has these in 40 columns, and BINTURAMIS_80_PICTURE_BYTES in 80.
+ */
 #define BINTURAMIS_PROCESSOR_BYTES 64u
 #define BINTURAMIS_MEMORY_BYTES 16384u
 #define BINTURAMIS_ROM_BYTES 6400u
 #define BINTURAMIS_PICTURE_BYTES 40000u
 #define BINTURAMIS_STATE_BYTES 48u
+
+/* A block of the private memory, and how many of them each of the three boards has. */
+#define BINTURAMIS_BLOCK_BYTES 1024u
+#define BINTURAMIS_BOARD_2 2u
+#define BINTURAMIS_BOARD_8 8u
+#define BINTURAMIS_BOARD_16 16u
 
 /*
  * The picture in 40 columns: 25 rows of ten lines, row r in the 1,600 bytes from 1,600 * r. A line is 160 bytes, two pixels a byte, the
@@ -65,13 +78,18 @@
 #define BINTURAMIS_SLICES 10u
 
 /*
- * Refusals. An access (write, read) is checked in the order 1, 2, 3, 4; a phase change in the order 1, 9; a draw in the order 1, 5, 7, 6,
- * 8. The first that applies is answered. After 3 and 4 the register access itself has happened, and nothing else: a refused read still
- * answers the value read. After every other refusal nothing at all has changed, and the value is 0. Where nothing has changed (1, 2, 5 to
- * 9, and 3 and 4 of a read, which writes no register) no byte of the processor is written either, whatever it holds.
+ * Refusals. An access (write, read) is checked in the order 1, 2, 3, 4, 11; a phase change in the order 1, 9; a draw in the order 1, 5,
+ * 7, 6, 8; power-up of a board can get 12 alone. The first that applies is answered. After 3, 4 and 11 the register access itself has
+ * happened, and nothing else: a refused read still answers the value read. After 12 the processor is that of the board of 16 blocks. After
+ * every other refusal nothing at all has changed, and the value is 0. Where nothing has changed (1, 2, 5 to 9, and 3, 4 and 11 of a read,
+ * which writes no register) no byte of the processor is written either, whatever it holds.
+ *
+ * 11 looks at every byte of the command, of its read forms too: KRF has three, in the blocks Z, Z + 1 and Z + 2 of the pointer's
+ * district; KRL has two, in the pointer's own block and in that of the attributes; OCT has one. IND and NOP have none. So on the board of
+ * 2 blocks, where no district is whole, KRF and KRL are always refused and OCT stores.
  */
 #define BINTURAMIS_ACCEPTED 0u
-#define BINTURAMIS_WRONG_MEMORY 1u  /* private memory is not 16,384 bytes */
+#define BINTURAMIS_WRONG_MEMORY 1u  /* private memory is not 1,024 bytes for each block of the board */
 #define BINTURAMIS_WRONG_ADDRESS 2u /* the address's high four bits are not 2 */
 #define BINTURAMIS_NOT_LISTED 3u    /* a command to execute is not one of those below */
 #define BINTURAMIS_BAD_POINTER 4u   /* its pointer has X above 39 or Y from 1 to 7 */
@@ -80,6 +98,8 @@
 #define BINTURAMIS_NOT_BUILT 7u     /* TGS bits 7, 6 or 5, or PAT bit 7, not zero; with TGS 7 and 6 both set, TGS 5 or PAT 7 */
 #define BINTURAMIS_LOW_ORIGIN 8u    /* origin YOR below 8 */
 #define BINTURAMIS_WRONG_PHASE 9u   /* phase is not 0 or 1 */
+#define BINTURAMIS_NOT_FITTED 11u   /* one of its bytes lies in a block that is not fitted */
+#define BINTURAMIS_WRONG_BOARD 12u  /* the number of blocks is not 2, 8 or 16 */
 
 /* The addresses of the registers. BINTURAMIS_EXECUTE added to one asks for the command in R0 to run after the access. */
 #define BINTURAMIS_R0 0x20u /* written: the command; read: the status */
@@ -135,7 +155,7 @@
 #define BINTURAMIS_CYAN 6u
 #define BINTURAMIS_WHITE 7u
 
-/* Where each part of the state stands among the 48 bytes of binturamis_state. The bytes past the marks are 0. */
+/* Where each part of the state stands among the 48 bytes of binturamis_state. Byte 40 and the bytes past the blocks are 0. */
 #define BINTURAMIS_STATE_R1 0u /* R1 to R7 in 0 to 6 */
 #define BINTURAMIS_STATE_R2 1u
 #define BINTURAMIS_STATE_R3 2u
@@ -152,30 +172,40 @@
 #define BINTURAMIS_STATE_ROR 13u
 #define BINTURAMIS_STATE_PHASE 14u
 #define BINTURAMIS_STATE_MARKS 15u /* row r at 15 + r, 1 if it is marked and else 0 */
+#define BINTURAMIS_STATE_BLOCKS 41u /* of the board: 2, 8 or 16 */
 
 #ifdef __cplusplus
 extern "C" {
 #endif
 
 /*
- * A processor: the registers, the marks and the phase. Its bytes are the library's; begin with binturamis_power_up, and copy it freely,
- * together with the memory and the picture that it belongs to. Bytes that no call has left mean the state that binturamis_state tells of
- * them, and get the answers of that state; an accepted call then leaves bytes of its own for the state after it. A refusal after which
- * nothing has changed writes no byte of the processor.
+ * A processor: the registers, the marks, the phase and the board. Its bytes are the library's; begin with binturamis_power_up or
+ * binturamis_power_up_board, and copy it freely, together with the memory and the picture that it belongs to. Bytes that no call has left
+ * mean the state that binturamis_state tells of them, its board among the rest, and get the answers of that state; an accepted call then
+ * leaves bytes of its own for the state after it. A refusal after which nothing has changed writes no byte of the processor.
  */
 typedef struct {
     uint8_t bytes[64];
 } binturamis_processor;
 
-/* Power-up: all registers and both LX bits 0, command 0x91, phase 0, every row marked. Memory and picture may hold anything. */
+/*
+ * Power-up of the board of 16 blocks: all registers and both LX bits 0, command 0x91, phase 0, every row marked. Memory and picture may
+ * hold anything.
+ */
 void binturamis_power_up(binturamis_processor *p);
 
-/* Writes the value to the register at the address, and then runs the command if the address asks for it. Refusals: 1, 2, 3, 4. */
+/*
+ * The same of a board of 2, 8 or 16 blocks, to which every later call lends 1,024 times as many bytes of memory. The value is 0. Refusal:
+ * 12 for any other number, and then the processor is that of the board of 16 blocks: later calls must lend 16,384 bytes.
+ */
+uint32_t binturamis_power_up_board(binturamis_processor *p, uint8_t blocks);
+
+/* Writes the value to the register at the address, and then runs the command if the address asks for it. Refusals: 1, 2, 3, 4, 11. */
 uint32_t binturamis_write(binturamis_processor *p, uint8_t *memory, size_t memory_len, uint8_t address, uint8_t value);
 
 /*
  * Reads the register at the address, and then runs the command if the address asks for it; so a read may store too. The value is the
- * register's from before the command, also with refusals 3 and 4. Refusals: 1, 2, 3, 4.
+ * register's from before the command, also with refusals 3, 4 and 11. Refusals: 1, 2, 3, 4, 11.
  */
 uint32_t binturamis_read(binturamis_processor *p, uint8_t *memory, size_t memory_len, uint8_t address);
 

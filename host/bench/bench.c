@@ -13,6 +13,7 @@
 #include <string.h>
 #include <time.h>
 
+#include "board.h"
 #include "prepare.h"
 #include "prepare_wide.h"
 
@@ -148,6 +149,20 @@ static void repeat_wide_margin(struct panel *panel, unsigned long round)
     put_indirect(panel, BINTURAMIS_MAT, wide_of(panel)->margin ^ 1);
 }
 
+static void repeat_redraw_8_blocks(struct panel *panel, unsigned long round)
+{
+    (void)round;
+    panel->processor = panel->before;
+    draw_on_board(panel, BINTURAMIS_BOARD_8, BINTURAMIS_ROWS);
+}
+
+static void repeat_wide_redraw_2_blocks(struct panel *panel, unsigned long round)
+{
+    (void)round;
+    panel->processor = panel->before;
+    draw_wide_on_board(panel, BINTURAMIS_BOARD_2, BINTURAMIS_ROWS);
+}
+
 /* The first is the floor. */
 static const struct scenario scenarios[] = {
     {"copy", NARROW, 1, random_cells, prepare_drawn, repeat_copy},
@@ -181,6 +196,8 @@ static const struct scenario scenarios[] = {
     {"phase_80", WIDE, PAGES, random_codes, prepare_wide_drawn, repeat_phase},
     {"phase_80_text", WIDE, PAGES, wide_text, prepare_wide_drawn, repeat_phase},
     {"margin_80", WIDE, 1, random_codes, prepare_wide_drawn, repeat_wide_margin},
+    {"redraw_8_blocks", NARROW, 1, NULL, prepare_8_blocks, repeat_redraw_8_blocks},
+    {"redraw_80_2_blocks", WIDE, 1, wide_text, prepare_wide_2_blocks, repeat_wide_redraw_2_blocks},
 };
 
 static const struct scenario *named(const char *name)

@@ -16,12 +16,12 @@
 #include "binturamis.h"
 
 /* Ends with a newline, and counts up when what goes over the pipes changes. */
-#define GREETING "binturamis bridge 2\n"
+#define GREETING "binturamis bridge 3\n"
 
 /* The bytes past a buffer's length that no call may change either. */
 #define SPARE 64
 
-enum call { POWER_UP = 'P', WRITE = 'W', READ = 'R', TURN = 'T', DRAW = 'D', STATE = 'S' };
+enum call { POWER_UP = 'P', POWER_UP_BOARD = 'B', WRITE = 'W', READ = 'R', TURN = 'T', DRAW = 'D', STATE = 'S' };
 
 /* A lent buffer, and what the other end knows of it. The two are equal, but while a call's changes have not been sent. */
 struct lent {
@@ -125,6 +125,8 @@ static uint32_t carry_out(enum call call, const uint8_t operands[2], binturamis_
     case POWER_UP:
         binturamis_power_up(p);
         return 0;
+    case POWER_UP_BOARD:
+        return binturamis_power_up_board(p, operands[0]);
     case WRITE:
         return binturamis_write(p, memory.bytes, memory.length, operands[0], operands[1]);
     case READ:

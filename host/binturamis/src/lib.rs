@@ -2,10 +2,10 @@
 //! registers, and the library keeps the private memory and draws the page of 25 rows and 40 or 80
 //! columns, only the rows that have changed.
 //!
-//! [`Panel`] owns a processor with its memory, its ROM and its picture. [`write()`], [`read`],
-//! [`turn`] and [`draw`] do the same to a [`Processor`] and slices of the caller's, which may have
-//! any length; a wrong one is refused. Each refusal is a [`Refusal`], which has its number in the
-//! rules.
+//! [`Panel`] owns a processor with its memory, its ROM and its picture. [`power_up`], [`write()`],
+//! [`read`], [`turn`] and [`draw`] do the same to a [`Processor`] and slices of the caller's, which
+//! may have any length; a wrong one is refused. Each refusal is a [`Refusal`], which has its number in
+//! the rules. A [`Board`] with less memory than 16 blocks is chosen at power-up.
 //!
 //! ```
 //! use binturamis::{Panel, Refusal, ROM_BYTES};
@@ -31,6 +31,7 @@
 #![deny(unsafe_code)]
 
 mod answer;
+mod board;
 #[cfg_attr(target_arch = "x86_64", path = "linked.rs")]
 #[cfg_attr(not(target_arch = "x86_64"), path = "bridged/mod.rs")]
 mod engine;
@@ -45,13 +46,14 @@ mod width;
 /// The version of this package, which is the library's.
 pub const VERSION: &str = env!("CARGO_PKG_VERSION");
 
-pub use operation::{draw, read, turn, write, Processor};
+pub use board::Board;
+pub use operation::{draw, power_up, read, turn, write, Processor};
 pub use panel::Panel;
 pub use redrawn::Redrawn;
 pub use refusal::{Refusal, RefusedRead};
 pub use size::{
-    COLUMNS, COLUMNS_80, LINE_BYTES, LINE_BYTES_80, MEMORY_BYTES, PICTURE_BYTES, PICTURE_BYTES_80,
-    PROCESSOR_BYTES, ROM_BYTES, ROWS, ROW_BYTES, ROW_BYTES_80, STATE_BYTES,
+    BLOCK_BYTES, COLUMNS, COLUMNS_80, LINE_BYTES, LINE_BYTES_80, MEMORY_BYTES, PICTURE_BYTES,
+    PICTURE_BYTES_80, PROCESSOR_BYTES, ROM_BYTES, ROWS, ROW_BYTES, ROW_BYTES_80, STATE_BYTES,
 };
 pub use state::State;
 pub use width::{Width, TGS_80};

@@ -1,13 +1,14 @@
 //! The operations over what a host lends: a processor and slices of any length.
 
 use crate::answer::Answer;
+use crate::board::Board;
 use crate::engine;
 use crate::redrawn::Redrawn;
 use crate::refusal::{Refusal, RefusedRead};
 use crate::size::{PROCESSOR_BYTES, STATE_BYTES};
 use crate::state::State;
 
-/// A processor: the registers, the marks and the phase, in bytes that are the library's.
+/// A processor: the registers, the marks, the phase and the board, in bytes that are the library's.
 ///
 /// A clone goes with clones of the memory and the picture that the processor belongs to: the kept
 /// picture is right only if each operation has the state that the one before it left.
@@ -18,11 +19,36 @@ pub struct Processor {
 }
 
 impl Processor {
-    /// All registers and both LX bits 0, command 91 hex, phase 0, every row marked. Memory and
-    /// picture may hold anything.
+    /// Of the board of 16 blocks: all registers and both LX bits 0, command 91 hex, phase 0, every row
+    /// marked. Memory and picture may hold anything.
     pub fn power_up() -> Processor {
         let mut processor = Processor::of_bytes([0; PROCESSOR_BYTES]);
         engine::power_up(&mut processor);
+        processor
+    }
+
+    /// The same of a board, to which every operation then lends [`Board::memory_bytes`].
+    ///
+    /// ```
+    /// use binturamis::{Board, Processor, Refusal};
+    ///
+    /// let mut processor = Processor::power_up_board(Board::Two);
+    /// let mut memory = vec![0; Board::Two.memory_bytes()];
+    /// for (address, value) in [(0x26, 0x08), (0x27, 0x80), (0x20, 0x30)] {
+    ///     binturamis::write(&mut processor, &mut memory, address, value)?; // block 1, and OCT
+    /// }
+    /// assert_eq!(binturamis::write(&mut processor, &mut memory, 0x29, 0x41), Ok(()));
+    /// assert_eq!(memory[1024 + 256], 0x41);
+    ///
+    /// // Block 2 is not fitted.
+    /// binturamis::write(&mut processor, &mut memory, 0x27, 0x40)?;
+    /// let refused = binturamis::write(&mut processor, &mut memory, 0x29, 0x41);
+    /// assert_eq!(refused, Err(Refusal::NotFitted));
+    /// # Ok::<(), Refusal>(())
+    /// ```
+    pub fn power_up_board(board: Board) -> Processor {
+        let mut processor = Processor::of_bytes([0; PROCESSOR_BYTES]);
+        power_up(&mut processor, board.blocks()).expect("the library has every board");
         processor
     }
 
@@ -47,8 +73,25 @@ impl Processor {
     }
 }
 
+/// Powers a processor up as that of a board of so many blocks, whatever it was before. Refusal: 12,
+/// and then it is that of the board of 16 blocks.
+///
+/// ```
+/// use binturamis::{Processor, Refusal};
+///
+/// let mut processor = Processor::power_up();
+/// assert_eq!(binturamis::power_up(&mut processor, 8), Ok(()));
+/// assert_eq!(processor.state().blocks, 8);
+/// assert_eq!(binturamis::power_up(&mut processor, 9), Err(Refusal::WrongBoard));
+/// assert_eq!(processor, Processor::power_up());
+/// ```
+pub fn power_up(processor: &mut Processor, blocks: u8) -> Result<(), Refusal> {
+    let answered = engine::power_up_board(processor, blocks);
+    Answer::of(answered).done()
+}
+
 /// Writes the value to the register at the address, and then runs the command if the address asks
-/// for it. Refusals: 1, 2, 3, 4.
+/// for it. Refusals: 1, 2, 3, 4, 11.
 ///
 /// ```
 /// use binturamis::{Processor, Refusal, MEMORY_BYTES};
@@ -73,7 +116,7 @@ pub fn write(
 }
 
 /// Reads the register at the address, and then runs the command if the address asks for it: so a
-/// read may store too. The value is the register's from before the command. Refusals: 1, 2, 3, 4.
+/// read may store too. The value is the register's from before the command. Refusals: 1, 2, 3, 4, 11.
 ///
 /// ```
 /// use binturamis::{Processor, Refusal, MEMORY_BYTES};

@@ -2,18 +2,19 @@
 
 use std::fmt;
 
+use crate::board::Board;
 use crate::operation::{self, Processor};
 use crate::redrawn::Redrawn;
 use crate::refusal::{Refusal, RefusedRead};
-use crate::size::{MEMORY_BYTES, ROM_BYTES};
+use crate::size::ROM_BYTES;
 use crate::state::State;
 use crate::width::Width;
 
 /// A processor with what it needs, so that the premises of the kept picture hold by themselves:
 /// nobody else writes the memory or the picture, and the ROM stays.
 ///
-/// The buffers have the right lengths, so that an access gets of the refusals 2, 3 and 4, a phase
-/// change 9, and a draw 7 and 8.
+/// The buffers have the right lengths, so that an access gets of the refusals 2, 3, 4 and 11, a phase
+/// change 9, and a draw 7 and 8. The board of 16 blocks never gets 11.
 ///
 /// ```
 /// use binturamis::{Panel, Refusal, LINE_BYTES, ROM_BYTES};
@@ -37,7 +38,8 @@ use crate::width::Width;
 #[derive(Clone, PartialEq, Eq)]
 pub struct Panel {
     processor: Processor,
-    memory: Box<[u8; MEMORY_BYTES]>,
+    board: Board,
+    memory: Box<[u8]>,
     rom: Box<[u8; ROM_BYTES]>,
     /// Of the last accepted draw, as is its width.
     picture: Vec<u8>,
@@ -45,11 +47,29 @@ pub struct Panel {
 }
 
 impl Panel {
-    /// Power-up with a character ROM, zero memory and a zero picture of 40 columns.
+    /// Power-up of the board of 16 blocks with a character ROM, zero memory and a zero picture of 40
+    /// columns.
     pub fn new(rom: [u8; ROM_BYTES]) -> Panel {
+        Panel::with_board(Board::Sixteen, rom)
+    }
+
+    /// The same of a board.
+    ///
+    /// ```
+    /// use binturamis::{Board, Panel, Refusal, ROM_BYTES};
+    ///
+    /// let mut panel = Panel::with_board(Board::Two, [0; ROM_BYTES]);
+    /// assert_eq!(panel.board(), Board::Two);
+    /// panel.write(0x20, 0x00)?; // KRF, whose third byte would be in block 2
+    /// assert_eq!(panel.write(0x29, 0x41), Err(Refusal::NotFitted));
+    /// assert_eq!(panel.memory(), [0; 2_048]);
+    /// # Ok::<(), Refusal>(())
+    /// ```
+    pub fn with_board(board: Board, rom: [u8; ROM_BYTES]) -> Panel {
         Panel {
-            processor: Processor::power_up(),
-            memory: Box::new([0; MEMORY_BYTES]),
+            processor: Processor::power_up_board(board),
+            board,
+            memory: vec![0; board.memory_bytes()].into(),
             rom: Box::new(rom),
             picture: vec![0; Width::Forty.picture_bytes()],
             width: Width::Forty,
@@ -110,8 +130,12 @@ impl Panel {
         self.width.row_of(&self.picture, row)
     }
 
-    /// The private memory.
-    pub fn memory(&self) -> &[u8; MEMORY_BYTES] {
+    pub fn board(&self) -> Board {
+        self.board
+    }
+
+    /// The private memory, as long as the board has it.
+    pub fn memory(&self) -> &[u8] {
         &self.memory
     }
 
@@ -129,7 +153,7 @@ impl Panel {
     }
 }
 
-/// The state alone: the buffers are 62,784 bytes, or 82,784.
+/// The state alone: the buffers are up to 82,784 bytes.
 impl fmt::Debug for Panel {
     fn fmt(&self, to: &mut fmt::Formatter) -> fmt::Result {
         to.debug_struct("Panel")

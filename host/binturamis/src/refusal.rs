@@ -5,9 +5,10 @@ use std::fmt;
 
 /// A refusal, by its number in the rules.
 ///
-/// An access is checked in the order 1, 2, 3, 4, a phase change 1, 9 and a draw 1, 5, 7, 6, 8; the
-/// first that applies is given. After 3 and 4 the register access itself has happened, and nothing
-/// else. After every other refusal nothing at all has changed.
+/// An access is checked in the order 1, 2, 3, 4, 11, a phase change 1, 9 and a draw 1, 5, 7, 6, 8; the
+/// first that applies is given. A power-up can get 12 alone. After 3, 4 and 11 the register access
+/// itself has happened, and nothing else. After 12 the processor is that of the board of 16 blocks.
+/// After every other refusal nothing at all has changed.
 ///
 /// A later number is a new case, and a `match` that has thought of every refusal is then no longer
 /// complete: the enum is not `non_exhaustive`, so that the compiler says so.
@@ -21,7 +22,7 @@ use std::fmt;
 #[derive(Clone, Copy, Debug, PartialEq, Eq, PartialOrd, Ord, Hash)]
 #[repr(u8)]
 pub enum Refusal {
-    /// Private memory is not 16,384 bytes.
+    /// Private memory is not 1,024 bytes for each block of the board.
     WrongMemory = 1,
     /// The address's high four bits are not 2.
     WrongAddress = 2,
@@ -39,11 +40,15 @@ pub enum Refusal {
     LowOrigin = 8,
     /// Phase is not 0 or 1.
     WrongPhase = 9,
+    /// One of its bytes lies in a block that is not fitted: the board does not have it.
+    NotFitted = 11,
+    /// The number of blocks is not 2, 8 or 16.
+    WrongBoard = 12,
 }
 
 impl Refusal {
     /// Every refusal, by rising number.
-    pub const ALL: [Refusal; 9] = [
+    pub const ALL: [Refusal; 11] = [
         Refusal::WrongMemory,
         Refusal::WrongAddress,
         Refusal::NotListed,
@@ -53,9 +58,11 @@ impl Refusal {
         Refusal::NotBuilt,
         Refusal::LowOrigin,
         Refusal::WrongPhase,
+        Refusal::NotFitted,
+        Refusal::WrongBoard,
     ];
 
-    /// The number in the rules, 1 to 9.
+    /// The number in the rules: 1 to 9, 11 or 12.
     pub fn number(self) -> u8 {
         self as u8
     }
@@ -69,12 +76,15 @@ impl Refusal {
 
     /// Whether the register access itself has happened all the same.
     pub fn is_after_access(self) -> bool {
-        matches!(self, Refusal::NotListed | Refusal::BadPointer)
+        matches!(
+            self,
+            Refusal::NotListed | Refusal::BadPointer | Refusal::NotFitted
+        )
     }
 
     fn words(self) -> &'static str {
         match self {
-            Refusal::WrongMemory => "private memory is not 16,384 bytes",
+            Refusal::WrongMemory => "private memory is not 1,024 bytes for each block of the board",
             Refusal::WrongAddress => "the address's high four bits are not 2",
             Refusal::NotListed => "a command to execute is not listed",
             Refusal::BadPointer => "the command's pointer has X above 39 or Y from 1 to 7",
@@ -85,6 +95,8 @@ impl Refusal {
             }
             Refusal::LowOrigin => "origin YOR below 8",
             Refusal::WrongPhase => "phase is not 0 or 1",
+            Refusal::NotFitted => "a byte of the command lies in a block that is not fitted",
+            Refusal::WrongBoard => "the number of blocks is not 2, 8 or 16",
         }
     }
 }
@@ -97,7 +109,7 @@ impl fmt::Display for Refusal {
 
 impl Error for Refusal {}
 
-/// A refused read. With refusals 3 and 4 the register has been read all the same, and its value is
+/// A refused read. With refusals 3, 4 and 11 the register has been read all the same, and its value is
 /// kept here.
 ///
 /// It turns into its [`Refusal`], so that `?` serves where the value is of no use.
@@ -116,7 +128,7 @@ impl RefusedRead {
         self.refusal
     }
 
-    /// The value of the register, if it was read: with refusals 3 and 4.
+    /// The value of the register, if it was read: with refusals 3, 4 and 11.
     pub fn value(self) -> Option<u8> {
         self.refusal.is_after_access().then_some(self.value)
     }

@@ -1,7 +1,10 @@
 //! The sizes of what is lent, in bytes, and of the picture in 40 columns and in 80.
 
-/// The bytes of private memory: sixteen blocks of 1,024.
-pub const MEMORY_BYTES: usize = 16_384;
+/// The bytes of a block of private memory.
+pub const BLOCK_BYTES: usize = 1_024;
+/// The bytes of private memory of the board of sixteen blocks;
+/// [`Board::memory_bytes`](crate::Board::memory_bytes) has those of another.
+pub const MEMORY_BYTES: usize = 16 * BLOCK_BYTES;
 /// The bytes of the character ROM: five sets of 128 characters of ten slices, in the order G0, G10,
 /// G11, G20, G21.
 pub const ROM_BYTES: usize = 6_400;

@@ -36,6 +36,8 @@ pub struct State {
     pub phase: u8,
     /// The rows that the next draw redraws.
     pub marks: [bool; ROWS],
+    /// The blocks of the board: 2, 8 or 16.
+    pub blocks: u8,
 }
 
 impl State {
@@ -62,6 +64,7 @@ impl State {
             ror: bytes[13],
             phase: bytes[14],
             marks,
+            blocks: bytes[41],
         }
     }
 

@@ -6,7 +6,7 @@ use std::io::Write;
 use std::path::Path;
 use std::process::{Command, Output, Stdio};
 
-const GREETING: &[u8] = b"binturamis bridge 2\n";
+const GREETING: &[u8] = b"binturamis bridge 3\n";
 
 /// What the bridge does with these bytes and no more.
 fn given(bytes: &[u8]) -> Output {
@@ -29,6 +29,11 @@ fn power_up() -> Vec<u8> {
     [&b"P\0\0"[..], &[0; 64]].concat()
 }
 
+/// Power-up of a board, as a request.
+fn power_up_board(blocks: u8) -> Vec<u8> {
+    [&[b'B', blocks, 0][..], &[0xAA; 64]].concat()
+}
+
 /// A phase change with a memory of this length, in which so many bytes are replaced from a start
 /// on.
 fn turn(length: u64, start: u64, count: u64) -> Vec<u8> {
@@ -46,6 +51,18 @@ fn it_ends_well_with_its_input() {
     // The 64 bytes, the answered number and the 48 bytes of the state.
     assert_eq!(answered.stdout.len(), GREETING.len() + 64 + 4 + 48);
     assert_eq!(answered.stdout[GREETING.len() + 64..][..4], [0; 4]);
+}
+
+#[test]
+fn it_powers_boards_up() {
+    for (blocks, number, left) in [(2, 0, 2), (8, 0, 8), (16, 0, 16), (9, 12, 16)] {
+        let answered = given(&power_up_board(blocks));
+        assert!(answered.status.success());
+        let answer = &answered.stdout[GREETING.len() + 64..];
+        assert_eq!(answer[..4], [0, 0, number, 0]);
+        assert_eq!(answer[4 + 41], left, "the blocks that the state tells");
+        assert_eq!(answer.len(), 4 + 48);
+    }
 }
 
 #[test]

@@ -6,7 +6,7 @@ use std::fs;
 use std::path::{Path, PathBuf};
 use std::process::Command;
 
-use binturamis::{Refusal, State, STATE_BYTES};
+use binturamis::{Board, Refusal, State, STATE_BYTES};
 
 /// Where `make library` leaves the archive and the header.
 const LIBRARY: &str = env!("BINTURAMIS_LIBRARY");
@@ -161,6 +161,69 @@ fn a_page_of_80_columns_is_drawn_by_the_headers_names() -> Result<(), String> {
     Ok(())
 }
 
+/// The boards by the header's names: power-up of each, and of one that there is not; then OCT to a byte
+/// that is fitted and to one that is not, KRF, and the blocks that the state tells.
+const BOARDS: &str = r#"
+#include <stdio.h>
+
+#include "binturamis.h"
+
+static binturamis_processor p;
+static uint8_t memory[BINTURAMIS_MEMORY_BYTES];
+static size_t length;
+
+static void put(uint8_t address, uint8_t value)
+{
+    printf(" %u", (unsigned)binturamis_number(binturamis_write(&p, memory, length, address, value)));
+}
+
+static void begin(uint8_t blocks)
+{
+    uint8_t state[BINTURAMIS_STATE_BYTES];
+    uint32_t answer = binturamis_power_up_board(&p, blocks);
+    binturamis_state(&p, state);
+    length = (size_t)BINTURAMIS_BLOCK_BYTES * state[BINTURAMIS_STATE_BLOCKS];
+    printf("%u %u %u", (unsigned)binturamis_number(answer), (unsigned)binturamis_value(answer), (unsigned)length);
+}
+
+static void try_board(uint8_t blocks)
+{
+    begin(blocks);
+    put(BINTURAMIS_R0, BINTURAMIS_OCT);
+    put(BINTURAMIS_R7, 0x80); /* block 1 */
+    put(BINTURAMIS_R1 + BINTURAMIS_EXECUTE, 0x41);
+    put(BINTURAMIS_R6, 0x80); /* block 9 */
+    put(BINTURAMIS_R1 + BINTURAMIS_EXECUTE, 0x42);
+    put(BINTURAMIS_R6, 0x00);
+    put(BINTURAMIS_R0 + BINTURAMIS_EXECUTE, BINTURAMIS_KRF);
+    length = length == BINTURAMIS_MEMORY_BYTES ? 8 * BINTURAMIS_BLOCK_BYTES : BINTURAMIS_MEMORY_BYTES;
+    put(BINTURAMIS_R1, 0);
+    printf("\n");
+}
+
+int main(void)
+{
+    try_board(BINTURAMIS_BOARD_2);
+    try_board(BINTURAMIS_BOARD_8);
+    try_board(BINTURAMIS_BOARD_16);
+    try_board(BINTURAMIS_BOARD_16 + 1);
+    return 0;
+}
+"#;
+
+#[test]
+fn the_boards_are_there_by_the_headers_names() -> Result<(), String> {
+    let output = run_text(BOARDS, "boards")?;
+    let wanted = [
+        "0 0 2048 0 0 0 0 11 0 11 1\n",
+        "0 0 8192 0 0 0 0 11 0 0 1\n",
+        "0 0 16384 0 0 0 0 0 0 0 1\n",
+        "12 0 16384 0 0 0 0 0 0 0 1\n",
+    ];
+    assert_eq!(output, wanted.concat());
+    Ok(())
+}
+
 #[test]
 fn the_header_is_c_and_cpp_by_itself() -> Result<(), String> {
     let header = top().join("include/binturamis.h");
@@ -206,6 +269,10 @@ fn the_headers_sizes_are_this_packages() -> Result<(), String> {
     for (name, size) in [
         ("PROCESSOR_BYTES", binturamis::PROCESSOR_BYTES),
         ("MEMORY_BYTES", binturamis::MEMORY_BYTES),
+        ("BLOCK_BYTES", binturamis::BLOCK_BYTES),
+        ("BOARD_2", usize::from(Board::Two.blocks())),
+        ("BOARD_8", usize::from(Board::Eight.blocks())),
+        ("BOARD_16", usize::from(Board::Sixteen.blocks())),
         ("ROM_BYTES", binturamis::ROM_BYTES),
         ("PICTURE_BYTES", binturamis::PICTURE_BYTES),
         ("STATE_BYTES", STATE_BYTES),
@@ -238,7 +305,10 @@ fn the_headers_refusals_are_this_packages() -> Result<(), String> {
         "NOT_BUILT",
         "LOW_ORIGIN",
         "WRONG_PHASE",
+        "NOT_FITTED",
+        "WRONG_BOARD",
     ];
+    assert_eq!(names.len(), Refusal::ALL.len());
     for (name, refusal) in names.into_iter().zip(Refusal::ALL) {
         assert_eq!(constant(&header, name), usize::from(refusal.number()));
         assert_eq!(name.replace('_', "").to_lowercase(), spelled(refusal));
@@ -259,6 +329,7 @@ fn the_headers_offsets_are_this_packages() -> Result<(), String> {
         *byte = at;
     }
     bytes[15 + 3] = 1;
+    bytes[41] = 41;
     let state = State::of_bytes(&bytes);
     for (name, byte) in [
         ("R1", state.r1),
@@ -276,6 +347,7 @@ fn the_headers_offsets_are_this_packages() -> Result<(), String> {
         ("DOR", state.dor),
         ("ROR", state.ror),
         ("PHASE", state.phase),
+        ("BLOCKS", state.blocks),
     ] {
         let offset = constant(&header, &format!("STATE_{name}"));
         assert_eq!(offset, usize::from(byte), "{name}");

@@ -73,7 +73,7 @@ fn what_was_written_is_read_with_the_nibble_in_both_halves() -> Result<(), Refus
         point(&mut panel, 39, 31, z)?;
         krl(&mut panel, 0x50, c, r3)?;
     }
-    let memory = *panel.memory();
+    let memory = panel.memory().to_vec();
     panel.write(0x22, 0x5A)?;
     for (z, c, r3) in [(0, 0x41, 0x99), (1, 0x42, 0x66)] {
         point(&mut panel, 39, 31, z)?;
@@ -81,7 +81,7 @@ fn what_was_written_is_read_with_the_nibble_in_both_halves() -> Result<(), Refus
         let state = panel.state();
         assert_eq!((state.r1, state.r2, state.r3), (c, 0x5A, r3));
     }
-    assert!(*panel.memory() == memory, "a read stores nothing");
+    assert!(panel.memory() == memory, "a read stores nothing");
     Ok(())
 }
 

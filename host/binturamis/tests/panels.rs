@@ -33,6 +33,7 @@ fn operations(seed: u64, count: usize) -> Vec<Operation> {
 /// What an operation answers, in words. A sequence has refused ones among the others.
 fn apply(panel: &mut Panel, operation: Operation) -> String {
     match operation {
+        Operation::PowerUp { .. } => panic!("a panel is powered up when it is made"),
         Operation::Write { address, value } => format!("{:?}", panel.write(address, value)),
         Operation::Read { address } => format!("{:?}", panel.read(address)),
         Operation::Turn { phase } => format!("{:?}", panel.turn(phase)),

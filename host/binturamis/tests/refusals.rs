@@ -8,9 +8,9 @@ use binturamis::{
 };
 
 #[test]
-fn the_numbers_are_1_to_9() {
+fn the_numbers_are_1_to_9_and_11_and_12() {
     let numbers = Refusal::ALL.map(Refusal::number);
-    assert_eq!(numbers, [1, 2, 3, 4, 5, 6, 7, 8, 9]);
+    assert_eq!(numbers, [1, 2, 3, 4, 5, 6, 7, 8, 9, 11, 12]);
     for number in 0..=255 {
         let found = Refusal::of_number(number).map(Refusal::number);
         assert_eq!(found, numbers.contains(&number).then_some(number));
@@ -21,7 +21,7 @@ fn the_numbers_are_1_to_9() {
 fn the_words_are_the_rules() {
     let said = Refusal::ALL.map(|refusal| refusal.to_string());
     let wanted = [
-        "refusal 1: private memory is not 16,384 bytes",
+        "refusal 1: private memory is not 1,024 bytes for each block of the board",
         "refusal 2: the address's high four bits are not 2",
         "refusal 3: a command to execute is not listed",
         "refusal 4: the command's pointer has X above 39 or Y from 1 to 7",
@@ -30,6 +30,8 @@ fn the_words_are_the_rules() {
         "refusal 7: TGS bit 7 or 6 set without the other, or TGS bit 5 or PAT bit 7 set",
         "refusal 8: origin YOR below 8",
         "refusal 9: phase is not 0 or 1",
+        "refusal 11: a byte of the command lies in a block that is not fitted",
+        "refusal 12: the number of blocks is not 2, 8 or 16",
     ];
     assert_eq!(said, wanted);
 }

@@ -262,7 +262,7 @@ fn mat_redraws_every_row_in_80_columns_and_none_in_40() -> Result<(), Refusal> {
 /// row.
 fn fresh(panel: &Panel) -> Result<Vec<u8>, Refusal> {
     let mut processor: Processor = panel.processor().clone();
-    let mut memory = *panel.memory();
+    let mut memory = panel.memory().to_vec();
     let tgs = processor.state().tgs;
     for value in [tgs ^ 1, tgs] {
         binturamis::write(&mut processor, &mut memory, 0x21, value)?;

@@ -8,7 +8,7 @@ use crate::lengths::Lengths;
 #[derive(Clone, Copy, Debug, PartialEq, Eq)]
 pub struct Asked {
     pub operation: Operation,
-    /// The lengths of the buffers, or none for the right ones of the mode at the time.
+    /// The lengths of the buffers, or none for the right ones of the mode and the board at the time.
     lengths: Option<Lengths>,
 }
 
@@ -29,8 +29,8 @@ impl Asked {
         }
     }
 
-    /// The lengths that are lent in a mode.
-    pub fn lengths(self, mode: Option<Mode>) -> Lengths {
-        self.lengths.unwrap_or_else(|| Lengths::right(mode))
+    /// The lengths that are lent in a mode and to a board of so many blocks.
+    pub fn lengths(self, mode: Option<Mode>, blocks: usize) -> Lengths {
+        self.lengths.unwrap_or_else(|| Lengths::right(mode, blocks))
     }
 }

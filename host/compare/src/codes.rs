@@ -4,7 +4,7 @@ use second::address::{code_block, place};
 use second::code::Code;
 use second::page::{first_block, screen_y};
 use second::random::Random;
-use second::{COLUMNS, MEMORY, POSITIONS, ROWS};
+use second::{BLOCK, COLUMNS, POSITIONS, ROWS};
 
 #[derive(Clone, Copy, Debug, PartialEq, Eq)]
 pub enum Codes {
@@ -21,9 +21,9 @@ pub enum Codes {
 pub const CODES: [Codes; 4] = [Codes::AnyBytes, Codes::Text, Codes::Mosaics, Codes::ByTurns];
 
 impl Codes {
-    /// A memory in which ROR shows such a page.
-    pub fn memory(self, random: &mut Random, ror: u8) -> Vec<u8> {
-        let mut memory = random.bytes(MEMORY);
+    /// A memory of so many blocks in which ROR shows such a page, as far as it is fitted.
+    pub fn memory(self, random: &mut Random, ror: u8, blocks: usize) -> Vec<u8> {
+        let mut memory = random.bytes(BLOCK * blocks);
         match self {
             Codes::AnyBytes => {}
             Codes::Text => fill(&mut memory, ror, |_| words(random)),
@@ -53,9 +53,12 @@ fn fill(memory: &mut [u8], ror: u8, mut given: impl FnMut(usize) -> Line) {
         for x in 0..COLUMNS {
             let (even, odd) = (codes[2 * x], codes[2 * x + 1]);
             let bytes = [even.c, odd.c, 16 * even.nibble + odd.nibble];
-            for (byte, value) in bytes.into_iter().enumerate() {
-                let block = code_block(first_block(ror), byte);
-                memory[place(x, screen_y(ror, row), block)] = value;
+            for (number, value) in bytes.into_iter().enumerate() {
+                let block = code_block(first_block(ror), number);
+                // A place past the end is not fitted.
+                if let Some(byte) = memory.get_mut(place(x, screen_y(ror, row), block)) {
+                    *byte = value;
+                }
             }
         }
     }

@@ -11,6 +11,9 @@ use crate::report::Report;
 pub trait Side {
     fn power_up() -> Self;
 
+    /// The blocks of its board.
+    fn blocks(&self) -> usize;
+
     /// The mode that its TGS names.
     fn mode(&self) -> Option<Mode>;
 
@@ -46,8 +49,16 @@ impl<S: Side> Desk<S> {
         }
     }
 
+    /// The same with the processor of a board.
+    pub fn begin_board(blocks: u8, memory: Vec<u8>, rom: Vec<u8>) -> Desk<S> {
+        let mut desk = Desk::begin(memory, rom);
+        let report = desk.apply(Asked::right(Operation::PowerUp { blocks }));
+        assert_eq!(report.number, 0, "there is no board of {blocks} blocks");
+        desk
+    }
+
     pub fn apply(&mut self, asked: Asked) -> Report {
-        let lengths = asked.lengths(self.processor.mode());
+        let lengths = asked.lengths(self.processor.mode(), self.processor.blocks());
         let lent = Lent {
             memory: &mut self.memory[..lengths.memory],
             rom: &self.rom[..lengths.rom],

@@ -5,7 +5,7 @@ use second::cell::Cell;
 use second::page::{first_block, screen_y};
 use second::random::Random;
 use second::sequence::short_palette;
-use second::{COLUMNS, MEMORY, ROWS};
+use second::{BLOCK, COLUMNS, ROWS};
 
 #[derive(Clone, Copy, Debug, PartialEq, Eq)]
 pub enum Filling {
@@ -33,9 +33,9 @@ pub const FILLINGS: [Filling; 6] = [
 ];
 
 impl Filling {
-    /// A memory in which ROR shows such a page.
-    pub fn memory(self, random: &mut Random, ror: u8) -> Vec<u8> {
-        let mut memory = random.bytes(MEMORY);
+    /// A memory of so many blocks in which ROR shows such a page, as far as it is fitted.
+    pub fn memory(self, random: &mut Random, ror: u8, blocks: usize) -> Vec<u8> {
+        let mut memory = random.bytes(BLOCK * blocks);
         match self {
             Filling::AnyBytes => {}
             Filling::FewCells => {
@@ -71,14 +71,18 @@ impl Filling {
     }
 }
 
-/// Stores the cell that is given for each row and column of the shown page.
+/// Stores the cell that is given for each row and column of the shown page. A place past the end is not
+/// fitted.
 fn fill(memory: &mut [u8], ror: u8, mut given: impl FnMut(usize, usize) -> Cell) {
     for row in 0..ROWS {
         for column in 0..COLUMNS {
             let cell = given(row, column);
-            for (byte, value) in [cell.c, cell.b, cell.a].into_iter().enumerate() {
-                let block = code_block(first_block(ror), byte);
-                memory[place(column, screen_y(ror, row), block)] = value;
+            for (number, value) in [cell.c, cell.b, cell.a].into_iter().enumerate() {
+                let block = code_block(first_block(ror), number);
+                let place = place(column, screen_y(ror, row), block);
+                if let Some(byte) = memory.get_mut(place) {
+                    *byte = value;
+                }
             }
         }
     }

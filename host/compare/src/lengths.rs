@@ -1,7 +1,8 @@
-//! The lengths in which the buffers are lent: the right ones of either mode, and ones that are refused.
+//! The lengths in which the buffers are lent: the right ones of either mode and of each board, and ones
+//! that are refused.
 
 use second::random::Random;
-use second::{Mode, MEMORY, ROM};
+use second::{Mode, BLOCK, BOARDS, MEMORY, ROM};
 
 /// The bytes that each buffer has past its right length.
 pub const SPARE: usize = 16;
@@ -14,38 +15,49 @@ pub struct Lengths {
 }
 
 impl Lengths {
-    /// The whole buffers. The picture is long enough for 80 columns.
+    /// The whole buffers. The memory is long enough for every board, and the picture for 80 columns.
     pub const WHOLE: Lengths = Lengths {
         memory: MEMORY + SPARE,
         rom: ROM + SPARE,
         picture: Mode::Eighty.picture() + SPARE,
     };
 
-    /// The right ones of a mode. Where TGS names none a draw is refused whatever the picture.
-    pub fn right(mode: Option<Mode>) -> Lengths {
+    /// The right ones of a mode and of a board of so many blocks. Where TGS names no mode a draw is
+    /// refused whatever the picture.
+    pub fn right(mode: Option<Mode>, blocks: usize) -> Lengths {
         Lengths {
-            memory: MEMORY,
+            memory: BLOCK * blocks,
             rom: ROM,
             picture: mode.unwrap_or(Mode::Forty).picture(),
         }
     }
 
     /// Each length right or wrong by itself, so that the order of the checks shows.
-    pub fn any(random: &mut Random) -> Lengths {
+    pub fn any(random: &mut Random, blocks: usize) -> Lengths {
         Lengths {
-            memory: right_or_wrong(random, MEMORY, 2),
+            memory: any_memory(random, blocks),
             rom: right_or_wrong(random, ROM, 2),
-            ..Lengths::any_picture(random)
+            ..Lengths::any_picture(random, blocks)
         }
     }
 
     /// Right ones but for the picture's, which most often is right for one of the modes.
-    pub fn any_picture(random: &mut Random) -> Lengths {
+    pub fn any_picture(random: &mut Random, blocks: usize) -> Lengths {
         let mode = random.choice(&[Mode::Forty, Mode::Eighty]);
         Lengths {
             picture: right_or_wrong(random, mode.picture(), 4),
-            ..Lengths::right(Some(mode))
+            ..Lengths::right(Some(mode), blocks)
         }
+    }
+}
+
+/// The board's every second time; else that of any of the three boards, or one that is wrong.
+fn any_memory(random: &mut Random, blocks: usize) -> usize {
+    let of_a_board = BLOCK * random.choice(&BOARDS);
+    match random.below(4) {
+        0 => of_a_board,
+        1 => wrong(random, BLOCK * blocks),
+        _ => BLOCK * blocks,
     }
 }
 

@@ -2,8 +2,8 @@
 //! and leaves, which was written from the rules alone. The library is called through its Rust
 //! interface, `host/binturamis`, and so through its C interface.
 //!
-//! There are random sequences of operations and random pages, in 40 columns and in 80, and both count
-//! what they met, so that tame ones are seen.
+//! There are random sequences of operations and random pages, in 40 columns and in 80 and on each of the
+//! three boards, and both count what they met, so that tame ones are seen.
 
 pub mod amount;
 pub mod asked;

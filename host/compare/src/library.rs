@@ -11,12 +11,20 @@ impl Side for Processor {
         Processor::power_up()
     }
 
+    fn blocks(&self) -> usize {
+        usize::from(self.state().blocks)
+    }
+
     fn mode(&self) -> Option<Mode> {
         Mode::of(self.state().tgs)
     }
 
     fn operate(&mut self, operation: Operation, lent: Lent) -> Answer {
         match operation {
+            Operation::PowerUp { blocks } => match binturamis::power_up(self, blocks) {
+                Ok(()) => answer(0, 0),
+                Err(refusal) => answer(refusal.number(), 0),
+            },
             Operation::Write { address, value } => {
                 match binturamis::write(self, lent.memory, address, value) {
                     Ok(()) => answer(0, 0),

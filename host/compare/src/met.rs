@@ -1,5 +1,7 @@
 //! What the operations of the trials met, counted, so that a tame choice of them is seen.
 
+mod boards;
+mod fitted;
 mod in_mode;
 mod krl;
 
@@ -8,8 +10,11 @@ use std::fmt;
 use second::Mode;
 
 use crate::trial::Step;
-pub use in_mode::{InMode, IN_A_MODE, IN_NO_MODE};
+pub use boards::Boards;
+pub use fitted::Fitted;
+pub use in_mode::InMode;
 
+/// On one board.
 #[derive(Default)]
 pub struct Met {
     /// By the mode before the operation.
@@ -21,6 +26,7 @@ pub struct Met {
     lx: [usize; 2],
     /// Cells of a palette of 0, 1, 2 and 3 colours that were redrawn with a rank missing.
     short: [usize; 4],
+    pub fitted: Fitted,
 }
 
 impl Met {
@@ -36,11 +42,20 @@ impl Met {
         for (count, cells) in self.short.iter_mut().zip(step.short) {
             *count += cells;
         }
+        self.fitted.look(step);
+    }
+
+    fn modes(&self) -> [&InMode; 3] {
+        [&self.forty, &self.eighty, &self.neither]
     }
 
     pub fn operations(&self) -> usize {
-        let modes = [&self.forty, &self.eighty, &self.neither];
-        modes.map(InMode::operations).iter().sum()
+        self.modes().map(InMode::operations).iter().sum()
+    }
+
+    /// How often a number was answered, to whatever operation.
+    pub fn times(&self, number: usize) -> usize {
+        self.modes().map(|met| met.times(number)).iter().sum()
     }
 
     /// Fails where an LX bit was left set fewer times than `least`.
@@ -60,6 +75,9 @@ impl fmt::Display for Met {
         writeln!(to, "in 40 columns\n{}", self.forty)?;
         writeln!(to, "in 80 columns\n{}", self.eighty)?;
         writeln!(to, "in no mode\n{}", self.neither)?;
+        let numbers: Vec<usize> = (0..13).map(|number| self.times(number)).collect();
+        writeln!(to, "numbers 0 to 12 in all: {numbers:?} times")?;
+        writeln!(to, "{}", self.fitted)?;
         writeln!(to, "left with LXm, LXa set: {:?} times", self.lx)?;
         let short = self.short;
         write!(to, "cells of 0 to 3 colours with a rank missing: {short:?}")

@@ -1,8 +1,9 @@
-//! Random pages: the memory, the registers, the phase and the marks of a seed, in either mode.
+//! Random pages: the memory, the registers, the phase and the marks of a seed, in either mode and on each
+//! board.
 
 use second::picture::View;
 use second::random::Random;
-use second::{Mode, Processor, ROM, ROWS};
+use second::{Mode, Processor, BLOCKS, ROM, ROWS};
 
 use crate::amount::at_least;
 use crate::codes::CODES;
@@ -13,6 +14,8 @@ pub struct Page {
     /// How the memory was filled, to be told.
     pub filling: String,
     pub mode: Mode,
+    /// Of the board.
+    pub blocks: usize,
     pub tgs: u8,
     pub mat: u8,
     pub pat: u8,
@@ -27,16 +30,22 @@ pub struct Page {
 }
 
 impl Page {
-    /// The page of a seed with every row marked, over a picture of any bytes.
+    /// The page of a seed with every row marked, over a picture of any bytes, on the board of 16 blocks.
     pub fn fresh(mode: Mode, seed: u64) -> Page {
+        Page::fresh_on(BLOCKS, mode, seed)
+    }
+
+    /// The same on a board.
+    pub fn fresh_on(blocks: usize, mode: Mode, seed: u64) -> Page {
         let mut random = Random::new(seed);
-        let ror = 32 * (random.byte() % 8) + 8 + random.byte() % 24;
+        let ror = any_ror(&mut random, blocks);
         let pat = random.byte() % 0x80;
-        let (filling, dor, memory) = filled(mode, seed, &mut random, ror);
+        let (filling, dor, memory) = filled(mode, seed, &mut random, ror, blocks);
         Page {
             seed,
             filling,
             mode,
+            blocks,
             tgs: mode.tgs() + random.byte() % 0x20,
             mat: random.byte(),
             pat,
@@ -52,11 +61,16 @@ impl Page {
 
     /// The same page with some rows marked: from none of them to all.
     pub fn partly_marked(mode: Mode, seed: u64) -> Page {
+        Page::partly_marked_on(BLOCKS, mode, seed)
+    }
+
+    /// The same on a board.
+    pub fn partly_marked_on(blocks: usize, mode: Mode, seed: u64) -> Page {
         let mut random = Random::new(!seed);
         let in_twelve = random.choice(&[0, 1, 3, 6, 9, 11, 12]);
         Page {
             marks: [(); ROWS].map(|()| random.below(12) < in_twelve),
-            ..Page::fresh(mode, seed)
+            ..Page::fresh_on(blocks, mode, seed)
         }
     }
 
@@ -84,24 +98,44 @@ impl Page {
             ror: self.ror,
             phase: self.phase,
             marks: self.marks,
+            blocks: self.blocks,
             ..Processor::power_up()
         }
     }
 }
 
+/// A value for ROR whose page can be drawn. On a smaller board most pages have a block that is fitted.
+pub fn any_ror(random: &mut Random, blocks: usize) -> u8 {
+    let any = random.byte() % 8;
+    let page = match (blocks, any) {
+        (2, 0..=5) => any % 2,
+        (8, 0..=5) => any % 4,
+        _ => any,
+    };
+    32 * page + 8 + random.byte() % 24
+}
+
 /// The name of a filling, a value for DOR and a memory. Each filling has its turn.
-fn filled(mode: Mode, seed: u64, random: &mut Random, ror: u8) -> (String, u8, Vec<u8>) {
+fn filled(
+    mode: Mode,
+    seed: u64,
+    random: &mut Random,
+    ror: u8,
+    blocks: usize,
+) -> (String, u8, Vec<u8>) {
     let turn = |fillings: usize| (seed % fillings as u64) as usize;
     match mode {
         Mode::Forty => {
             let filling = FILLINGS[turn(FILLINGS.len())];
             let dor = filling.dor(random, ror);
-            (format!("{filling:?}"), dor, filling.memory(random, ror))
+            let memory = filling.memory(random, ror, blocks);
+            (format!("{filling:?}"), dor, memory)
         }
         Mode::Eighty => {
             let codes = CODES[turn(CODES.len())];
             let dor = random.byte();
-            (format!("{codes:?}"), dor, codes.memory(random, ror))
+            let memory = codes.memory(random, ror, blocks);
+            (format!("{codes:?}"), dor, memory)
         }
     }
 }

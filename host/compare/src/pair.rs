@@ -25,6 +25,15 @@ impl Pair {
         )
     }
 
+    /// The same with the processors of a board.
+    pub fn begin_board(seed: u64, blocks: u8, memory: Vec<u8>, rom: Vec<u8>) -> Pair {
+        Pair::of(
+            seed,
+            Desk::begin_board(blocks, memory.clone(), rom.clone()),
+            Desk::begin_board(blocks, memory, rom),
+        )
+    }
+
     /// Any two desks, which must hold the same.
     pub fn of(
         seed: u64,

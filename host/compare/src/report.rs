@@ -16,6 +16,8 @@ pub struct Report {
     pub lxa: u8,
     pub phase: u8,
     pub marks: [u8; ROWS],
+    /// Of the board.
+    pub blocks: u8,
 }
 
 impl Report {
@@ -31,6 +33,7 @@ impl Report {
             lxa: u8::from(left.lx_auxiliary),
             phase: left.phase,
             marks: left.marks.map(u8::from),
+            blocks: u8::try_from(left.blocks).expect("a board has few blocks"),
         }
     }
 
@@ -38,7 +41,8 @@ impl Report {
     /// status LXm and LXa are kept, since a status that is not theirs fails here.
     pub fn told(answer: Answer, state: &[u8; STATE_BYTES]) -> Report {
         let (lxm, lxa) = lx_bits(state[8]);
-        assert_eq!(state[40..], [0; 8], "the bytes past the marks");
+        assert_eq!(state[40], 0, "the byte past the marks");
+        assert_eq!(state[42..], [0; 6], "the bytes past the blocks");
         let [tgs, mat, pat, dor, ror] = part(state, 9);
         Report {
             number: answer.number,
@@ -51,15 +55,17 @@ impl Report {
             lxa,
             phase: state[14],
             marks: part(state, 15),
+            blocks: state[41],
         }
     }
 
     /// The bytes that the library keeps of a processor in this state. They have all eight indirect
-    /// registers, while it tells five.
+    /// registers, while it tells five. Of the boards that of 16 blocks is a 0.
     pub fn packed(&self) -> [u8; PROCESSOR_BYTES] {
         let flags = [self.lxm, self.lxa, self.phase];
         let parts: [&[u8]; 4] = [&self.registers, &self.indirect, &flags, &self.marks];
         let mut bytes = parts.concat();
+        bytes.push(self.blocks % 16);
         bytes.resize(PROCESSOR_BYTES, 0);
         part(&bytes, 0)
     }

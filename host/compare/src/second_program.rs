@@ -10,12 +10,21 @@ impl Side for Processor {
         Processor::power_up()
     }
 
+    fn blocks(&self) -> usize {
+        self.blocks
+    }
+
     fn mode(&self) -> Option<Mode> {
         Processor::mode(self)
     }
 
     fn operate(&mut self, operation: Operation, lent: Lent) -> Answer {
         match operation {
+            Operation::PowerUp { blocks } => {
+                let (processor, answer) = Processor::power_up_board(blocks);
+                *self = processor;
+                answer
+            }
             Operation::Write { address, value } => self.write(lent.memory, address, value),
             Operation::Read { address } => self.read(lent.memory, address),
             Operation::Turn { phase } => self.turn(lent.memory, phase),

@@ -5,10 +5,10 @@ use std::collections::VecDeque;
 
 use second::random::Random;
 use second::sequence::Sequence;
-use second::{Mode, Operation, Processor, MEMORY, ROWS};
+use second::{Mode, Operation, Processor, ROWS};
 
 use crate::asked::Asked;
-use crate::lengths::{Lengths, SPARE};
+use crate::lengths::Lengths;
 use crate::pair::Pair;
 use crate::report::Report;
 use crate::short::short_palette;
@@ -17,8 +17,9 @@ use crate::unplanned::unplanned;
 /// The operations of one trial.
 pub const OPERATIONS: u64 = 500;
 
-/// The trial of a seed.
+/// The trial of a seed on a board. It may be another one for a few operations.
 pub struct Trial {
+    blocks: u8,
     sequence: Sequence,
     random: Random,
     pair: Pair,
@@ -46,16 +47,17 @@ pub struct Step {
 }
 
 impl Trial {
-    pub fn new(seed: u64) -> Trial {
+    pub fn new(seed: u64, blocks: u8) -> Trial {
         let mut sequence = Sequence::new(seed);
         let mut random = Random::new(!seed);
-        let mut memory = sequence.memory();
-        memory.extend(random.bytes(SPARE));
+        let mut memory = sequence.memory(usize::from(blocks));
+        memory.extend(random.bytes(Lengths::WHOLE.memory - memory.len()));
         let rom = random.bytes(Lengths::WHOLE.rom);
         Trial {
+            blocks,
             sequence,
             random,
-            pair: Pair::begin(seed, memory, rom),
+            pair: Pair::begin_board(seed, blocks, memory, rom),
             unplanned: VecDeque::new(),
             drawn: None,
         }
@@ -87,7 +89,8 @@ impl Trial {
     /// The cells of short palettes among some rows that were drawn, of a page of 40 columns.
     fn short(&self, rows: [bool; ROWS], is_drawn: bool) -> [usize; 4] {
         let second = &self.pair.second;
-        let view = second.processor.view(&second.memory, &second.rom);
+        let memory = &second.memory[..second.processor.memory_length()];
+        let view = second.processor.view(memory, &second.rom);
         let mut counts = [0; 4];
         if !is_drawn || view.page.mode != Mode::Forty {
             return counts;
@@ -116,7 +119,8 @@ impl Trial {
 
     /// Any bytes in place of the library's picture, of which a draw of every row leaves none.
     fn lend_other_picture(&mut self, asked: Asked) {
-        let length = asked.lengths(self.pair.second.processor.mode()).picture;
+        let second = &self.pair.second.processor;
+        let length = asked.lengths(second.mode(), second.blocks).picture;
         let other = self.random.bytes(length);
         self.pair.library.picture[..length].copy_from_slice(&other);
     }
@@ -125,13 +129,14 @@ impl Trial {
     /// it and not in its place, so that plans are still carried out.
     fn asked(&mut self) -> Asked {
         if self.unplanned.is_empty() && self.random.one_in(8) {
-            self.unplanned.extend(unplanned(&mut self.random));
+            self.unplanned
+                .extend(unplanned(&mut self.random, self.blocks));
         }
         if let Some(asked) = self.unplanned.pop_front() {
             return asked;
         }
         let second = &self.pair.second;
-        let memory = &second.memory[..MEMORY];
+        let memory = &second.memory[..second.processor.memory_length()];
         Asked::right(self.sequence.operation(&second.processor, memory))
     }
 }

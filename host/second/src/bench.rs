@@ -31,6 +31,17 @@ impl Bench {
         }
     }
 
+    /// Power-up of a board, which must be one of the three, with zero memory of its length.
+    pub fn power_up_board(blocks: u8) -> Self {
+        let (processor, answer) = Processor::power_up_board(blocks);
+        assert_eq!(answer.number, 0, "there is no board of {blocks} blocks");
+        Bench {
+            memory: vec![0; processor.memory_length()],
+            processor,
+            ..Bench::power_up()
+        }
+    }
+
     /// A bench whose page can be drawn: origin 8 and first block 0, everything else as at power-up.
     pub fn drawable() -> Self {
         let mut bench = Bench::power_up();
@@ -77,6 +88,7 @@ impl Bench {
     /// One operation of a sequence under given rules. A draw is lent a picture of the right length.
     pub fn apply_with<R: Rules>(&mut self, rules: &R, operation: Operation) -> Answer {
         match operation {
+            Operation::PowerUp { blocks } => self.power_up_again(blocks),
             Operation::Write { address, value } => {
                 self.processor
                     .write_with(rules, &mut self.memory, address, value)
@@ -90,6 +102,15 @@ impl Bench {
                 self.draw()
             }
         }
+    }
+
+    /// Power-up of another board, or of the same: the memory that is lent from here on begins with the
+    /// bytes of the one before, and has zeros where it is longer.
+    fn power_up_again(&mut self, blocks: u8) -> Answer {
+        let (processor, answer) = Processor::power_up_board(blocks);
+        self.memory.resize(processor.memory_length(), 0);
+        self.processor = processor;
+        answer
     }
 
     /// IND r with a value.

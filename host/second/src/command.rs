@@ -1,5 +1,6 @@
 //! The listed commands, each by its literal bytes.
 
+use crate::address::code_block;
 use crate::pointer::Which;
 
 /// The five indirect registers.
@@ -63,6 +64,22 @@ impl Command {
             Command::Oct { pointer, .. } => Some(pointer),
         }
     }
+
+    /// The blocks of the command's bytes, where its pointer has block `z`: "KRF three blocks, OCT one,
+    /// KRL two", read forms too. KRL's second is the attributes'. "IND and NOP never get" refusal 11.
+    pub fn blocks(self, z: usize) -> Vec<usize> {
+        match self {
+            Command::Nop | Command::Ind { .. } => vec![],
+            Command::Krf { .. } => vec![code_block(z, 0), code_block(z, 1), code_block(z, 2)],
+            Command::Krl { .. } => vec![z, attributes_block(z)],
+            Command::Oct { .. } => vec![z],
+        }
+    }
+}
+
+/// "The attributes are at X, Y in block Z with Z0 = 0, plus 2 modulo 4 inside the district."
+pub fn attributes_block(z: usize) -> usize {
+    code_block(z - z % 2, 2)
 }
 
 /// IND by its r; "Other r: refusal 3".

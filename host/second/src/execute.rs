@@ -1,7 +1,7 @@
 //! The running of a listed command on the state and the private memory.
 
-use crate::address::{code_block, place};
-use crate::command::{Command, Indirect};
+use crate::address::{code_block, fitted, place};
+use crate::command::{attributes_block, Command, Indirect};
 use crate::packing::{in_both_halves, nibble};
 use crate::pointer::{Pointer, Which};
 use crate::processor::Processor;
@@ -9,14 +9,20 @@ use crate::rules::Rules;
 use crate::ROWS;
 
 impl Processor {
-    /// Runs the command in R0 and returns 0, or returns refusal 3 or 4 with nothing done.
+    /// Runs the command in R0 and returns 0, or returns refusal 3, 4 or 11 with nothing done.
     pub(crate) fn execute<R: Rules>(&mut self, rules: &R, memory: &mut [u8]) -> u8 {
         let Some(command) = Command::listed(self.registers[0]) else {
             return 3;
         };
         if let Some(which) = command.pointer() {
-            if !Pointer::of(&self.registers, which).legal() {
+            let pointer = Pointer::of(&self.registers, which);
+            if !pointer.legal() {
                 return 4;
+            }
+            // "11, a command any of whose bytes lies in a block not fitted, after 4".
+            let blocks = command.blocks(pointer.z);
+            if blocks.iter().any(|z| !fitted(*z, self.blocks)) {
+                return 11;
             }
             // "An accepted KRF or OCT first clears both LX bits", and so does KRL: those are the
             // commands that use a pointer.
@@ -100,14 +106,13 @@ impl Processor {
         }
     }
 
-    /// KRL's 12 bits. C is at X and Y in the pointer's own block, whose Z0 says even or odd; "the
-    /// attributes are at X, Y in block Z with Z0 = 0, plus 2 modulo 4 inside the district". They are
-    /// two stores, C first, each with the lists just before it. R2 stays.
+    /// KRL's 12 bits. C is at X and Y in the pointer's own block, whose Z0 says even or odd, and the
+    /// attributes are in a block of theirs. They are two stores, C first, each with the lists just
+    /// before it. R2 stays.
     fn packed_code<R: Rules>(&mut self, rules: &R, memory: &mut [u8], read: bool) {
         let pointer = Pointer::of(&self.registers, Which::Main);
         let odd = pointer.z % 2 == 1;
-        let even_block = pointer.z - pointer.z % 2;
-        let attributes = place(pointer.x, pointer.y, code_block(even_block, 2));
+        let attributes = place(pointer.x, pointer.y, attributes_block(pointer.z));
         if read {
             self.registers[1] = memory[pointer.place()];
             self.registers[3] = in_both_halves(nibble(memory[attributes], odd));

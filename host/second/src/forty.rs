@@ -1,6 +1,6 @@
 //! The eight by ten pixels of a cell of 40 columns.
 
-use crate::address::{rom_place, slice_place};
+use crate::address::{rom_place, slice_address};
 use crate::cell::{Cell, Source};
 use crate::colour::Colour;
 use crate::half::{shows_lower, shows_right};
@@ -11,14 +11,14 @@ use crate::{bichrome, quadrichrome, LINES};
 pub type Window = [[Colour; 8]; LINES];
 
 impl View<'_> {
-    /// The value of a slice; "If that Y is 1..7 the slice is 0 and no byte is read."
+    /// The value of a slice.
     pub fn slice(&self, cell: Cell, slice: usize) -> u8 {
         match cell.source(self.page.dor) {
             Source::Rom(set) => self.rom[rom_place(set, cell.c, slice)],
-            Source::Block(block) => match slice_place(cell.c, slice, block) {
-                Some(place) => self.page.memory[place],
-                None => 0,
-            },
+            Source::Block(block) => {
+                let address = slice_address(cell.c, slice, block, self.page.blocks);
+                address.drawn(self.page.memory)
+            }
         }
     }
 

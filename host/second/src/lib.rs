@@ -41,7 +41,13 @@ pub use panel::panel;
 pub use processor::{Answer, Processor};
 pub use slip::Slip;
 
-/// The bytes of private memory: sixteen blocks of 1,024.
+/// The bytes of a block of private memory.
+pub const BLOCK: usize = 1_024;
+/// The blocks that each board may have: "2, 8 or 16 blocks".
+pub const BOARDS: [usize; 3] = [2, 8, 16];
+/// The blocks of the board of which nothing else is said.
+pub const BLOCKS: usize = 16;
+/// The bytes of private memory of that board.
 pub const MEMORY: usize = 16_384;
 /// The bytes of the ROM: five sets of 128 characters of ten slices.
 pub const ROM: usize = 6_400;

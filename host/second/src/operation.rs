@@ -2,8 +2,19 @@
 
 #[derive(Clone, Copy, Debug, PartialEq, Eq)]
 pub enum Operation {
-    Write { address: u8, value: u8 },
-    Read { address: u8 },
-    Turn { phase: u8 },
+    /// Of a board of so many blocks.
+    PowerUp {
+        blocks: u8,
+    },
+    Write {
+        address: u8,
+        value: u8,
+    },
+    Read {
+        address: u8,
+    },
+    Turn {
+        phase: u8,
+    },
     Draw,
 }

@@ -1,19 +1,21 @@
 //! The shown page: which cell of private memory stands in a row and a column of the screen, or in a
 //! row and a position.
 
-use crate::address::{code_block, place};
+use crate::address::{address, code_block, Address};
 use crate::cell::Cell;
 use crate::code::Code;
 use crate::mode::Mode;
 use crate::packing::nibble;
 use crate::{COLUMNS, POSITIONS};
 
-/// The page that TGS, ROR and DOR choose in a memory of the right length.
+/// The page that TGS, ROR and DOR choose in a memory of the right length for its board.
 #[derive(Clone, Copy)]
 pub struct Page<'a> {
     pub mode: Mode,
     pub ror: u8,
     pub dor: u8,
+    /// Of the board.
+    pub blocks: usize,
     pub memory: &'a [u8],
 }
 
@@ -35,18 +37,24 @@ pub fn first_block(ror: u8) -> usize {
 }
 
 impl Page<'_> {
-    /// The place of byte 0 (C), 1 (B) or 2 (A) of a cell. In 80 columns the same three bytes hold the
+    /// Where byte 0 (C), 1 (B) or 2 (A) of a cell is. In 80 columns the same three bytes hold the
     /// codes of two positions.
-    pub fn code_place(&self, row: usize, column: usize, byte: usize) -> usize {
+    pub fn code_address(&self, row: usize, column: usize, byte: usize) -> Address {
         let block = code_block(first_block(self.ror), byte);
-        place(column, screen_y(self.ror, row), block)
+        address(column, screen_y(self.ror, row), block, self.blocks)
+    }
+
+    /// The byte there as the page shows it: 0 where it is not fitted, "also in 'the same three
+    /// bytes', in A3 and in palettes".
+    fn code_byte(&self, row: usize, column: usize, byte: usize) -> u8 {
+        self.code_address(row, column, byte).drawn(self.memory)
     }
 
     pub fn cell(&self, row: usize, column: usize) -> Cell {
         Cell {
-            c: self.memory[self.code_place(row, column, 0)],
-            b: self.memory[self.code_place(row, column, 1)],
-            a: self.memory[self.code_place(row, column, 2)],
+            c: self.code_byte(row, column, 0),
+            b: self.code_byte(row, column, 1),
+            a: self.code_byte(row, column, 2),
         }
     }
 
@@ -59,9 +67,9 @@ impl Page<'_> {
     /// even p, in the next for an odd one. The third block's byte holds two nibbles of attributes".
     pub fn code(&self, row: usize, position: usize) -> Code {
         let (x, odd) = (position / 2, position % 2 == 1);
-        let packed = self.memory[self.code_place(row, x, 2)];
+        let packed = self.code_byte(row, x, 2);
         Code {
-            c: self.memory[self.code_place(row, x, usize::from(odd))],
+            c: self.code_byte(row, x, usize::from(odd)),
             nibble: nibble(packed, odd),
         }
     }

@@ -6,7 +6,7 @@ use crate::mode::Mode;
 use crate::page::Page;
 use crate::picture::View;
 use crate::rules::{PageRules, Rules};
-use crate::{reading, MEMORY, ROM, ROWS};
+use crate::{reading, BLOCK, BLOCKS, BOARDS, ROM, ROWS};
 
 /// The whole state. Private memory, ROM and picture are the host's and are lent to each call.
 #[derive(Clone, Debug, PartialEq, Eq)]
@@ -22,6 +22,8 @@ pub struct Processor {
     pub lx_auxiliary: bool,
     pub phase: u8,
     pub marks: [bool; ROWS],
+    /// The blocks of the board: 2, 8 or 16. "The size is given at power-up and stays."
+    pub blocks: usize,
 }
 
 /// What is handed back: the number of the page's table, and a value; the value of a draw is its
@@ -40,8 +42,28 @@ impl Answer {
 }
 
 impl Processor {
-    /// "Power-up: all registers and both LX bits 0, command 91 hex, phase 0, every row marked".
+    /// Power-up of the board that has every block.
     pub fn power_up() -> Self {
+        Processor::powered_up(BLOCKS)
+    }
+
+    /// Power-up of a board of so many blocks. "12, a size that is none of the three, at power-up,
+    /// which then hands back the power-up state of the 16 block board".
+    pub fn power_up_board(blocks: u8) -> (Processor, Answer) {
+        let blocks = usize::from(blocks);
+        if BOARDS.contains(&blocks) {
+            let accepted = Answer {
+                number: 0,
+                value: 0,
+            };
+            (Processor::powered_up(blocks), accepted)
+        } else {
+            (Processor::powered_up(BLOCKS), Answer::refusal(12))
+        }
+    }
+
+    /// "Power-up: all registers and both LX bits 0, command 91 hex, phase 0, every row marked".
+    fn powered_up(blocks: usize) -> Self {
         Processor {
             registers: [0x91, 0, 0, 0, 0, 0, 0, 0],
             tgs: 0,
@@ -53,7 +75,13 @@ impl Processor {
             lx_auxiliary: false,
             phase: 0,
             marks: [true; ROWS],
+            blocks,
         }
+    }
+
+    /// The bytes of private memory that the board has.
+    pub fn memory_length(&self) -> usize {
+        BLOCK * self.blocks
     }
 
     pub fn write(&mut self, memory: &mut [u8], address: u8, value: u8) -> Answer {
@@ -77,7 +105,7 @@ impl Processor {
         address: u8,
         value: u8,
     ) -> Answer {
-        if let Some(number) = access_refusal(memory, address) {
+        if let Some(number) = self.access_refusal(memory, address) {
             return Answer::refusal(number);
         }
         self.registers[usize::from(address % 8)] = value;
@@ -86,9 +114,9 @@ impl Processor {
     }
 
     /// A read under given rules. It returns the value from before the command, also with
-    /// refusals 3 and 4.
+    /// refusals 3, 4 and 11.
     pub fn read_with<R: Rules>(&mut self, rules: &R, memory: &mut [u8], address: u8) -> Answer {
-        if let Some(number) = access_refusal(memory, address) {
+        if let Some(number) = self.access_refusal(memory, address) {
             return Answer::refusal(number);
         }
         let value = match address % 8 {
@@ -101,7 +129,7 @@ impl Processor {
 
     /// The phase change under given rules. Setting the present phase again marks nothing.
     pub fn turn_with<R: Rules>(&mut self, rules: &R, memory: &[u8], phase: u8) -> Answer {
-        if memory.len() != MEMORY {
+        if memory.len() != self.memory_length() {
             return Answer::refusal(1);
         }
         if phase != 0 && phase != 1 {
@@ -203,6 +231,7 @@ impl Processor {
             mode: self.mode().unwrap_or(Mode::Forty),
             ror: self.ror,
             dor: self.dor,
+            blocks: self.blocks,
             memory,
         }
     }
@@ -220,7 +249,7 @@ impl Processor {
     /// Draw is checked 1, 5, 7, 6, 8: "6 asks for the length that goes with the mode and is checked
     /// after 7".
     fn draw_refusal(&self, memory: &[u8], rom: &[u8], picture: &[u8]) -> Option<u8> {
-        if memory.len() != MEMORY {
+        if memory.len() != self.memory_length() {
             return Some(1);
         }
         if rom.len() != ROM {
@@ -234,6 +263,17 @@ impl Processor {
         }
     }
 
+    /// The checks before the register access: 1, which "compares with the size chosen", then 2.
+    fn access_refusal(&self, memory: &[u8], address: u8) -> Option<u8> {
+        if memory.len() != self.memory_length() {
+            Some(1)
+        } else if address / 16 != 2 {
+            Some(2)
+        } else {
+            None
+        }
+    }
+
     /// "Bit 3 asks for execution"; without it the access is accepted as it stands.
     fn execute_if_asked<R: Rules>(&mut self, rules: &R, memory: &mut [u8], address: u8) -> u8 {
         if address / 8 % 2 == 1 {
@@ -241,16 +281,5 @@ impl Processor {
         } else {
             0
         }
-    }
-}
-
-/// The checks before the register access: 1, then 2.
-fn access_refusal(memory: &[u8], address: u8) -> Option<u8> {
-    if memory.len() != MEMORY {
-        Some(1)
-    } else if address / 16 != 2 {
-        Some(2)
-    } else {
-        None
     }
 }

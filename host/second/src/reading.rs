@@ -2,30 +2,31 @@
 
 use std::collections::BTreeSet;
 
-use crate::address::slice_place;
+use crate::address::slice_address;
 use crate::cell::{Cell, Source};
 use crate::mode::Mode;
 use crate::page::Page;
 use crate::{COLUMNS, LINES};
 
-/// The 120 places of the codes of a row.
+/// The 120 places of the codes of a row, but for those that are not fitted: such a byte "is on no
+/// reading list".
 pub fn code_places(page: &Page, row: usize) -> Vec<usize> {
     let mut places = Vec::new();
     for column in 0..COLUMNS {
         for byte in 0..3 {
-            places.push(page.code_place(row, column, byte));
+            places.extend(page.code_address(row, column, byte).fitted());
         }
     }
     places
 }
 
-/// The legal ones among the ten slices of a user or quadrichrome cell; none for a cell of the ROM.
-/// All ten count, also at low resolution.
+/// The legal and fitted ones among the ten slices of a user or quadrichrome cell; none for a cell of
+/// the ROM. All ten count, also at low resolution.
 pub fn slice_places(page: &Page, cell: Cell) -> Vec<usize> {
     match cell.source(page.dor) {
         Source::Rom(_) => Vec::new(),
         Source::Block(block) => (0..LINES)
-            .filter_map(|slice| slice_place(cell.c, slice, block))
+            .filter_map(|slice| slice_address(cell.c, slice, block, page.blocks).fitted())
             .collect(),
     }
 }

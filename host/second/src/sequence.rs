@@ -12,7 +12,7 @@ use crate::mode::Mode;
 use crate::operation::Operation;
 use crate::processor::Processor;
 use crate::random::Random;
-use crate::MEMORY;
+use crate::{BLOCK, BLOCKS};
 
 pub use choices::short_palette;
 
@@ -45,13 +45,14 @@ impl Sequence {
         }
     }
 
-    /// A private memory to begin with: zero, or any bytes, in which few cells may be double height
-    /// and few may flash.
-    pub fn memory(&mut self) -> Vec<u8> {
+    /// A private memory of so many blocks to begin with: zero, or any bytes, in which few cells may be
+    /// double height and few may flash.
+    pub fn memory(&mut self, blocks: usize) -> Vec<u8> {
+        let length = BLOCK * blocks;
         if self.random.one_in(4) {
-            return vec![0; MEMORY];
+            return vec![0; length];
         }
-        let mut memory = self.random.bytes(MEMORY);
+        let mut memory = self.random.bytes(length);
         // Which blocks hold B and A bytes, or attributes, depends on the origin, so bit 1 of B is
         // cleared everywhere; so are bit 3 of A, and bits 6 and 2 of attributes, which flash.
         if self.calm {
@@ -85,7 +86,11 @@ impl Sequence {
     /// One plan, and a draw after one in three, so that few changes stand between two draws.
     fn plan(&mut self, processor: &Processor, memory: &[u8]) {
         if processor.page_refusal().is_some() && self.random.one_in(4) {
-            return self.mend();
+            return self.mend(processor);
+        }
+        // On a smaller board few other plans store outside the page.
+        if processor.blocks < BLOCKS && self.random.one_in(12) {
+            return self.one_byte(processor);
         }
         match self.random.below(100) {
             0..=75 => match processor.page(memory).mode {

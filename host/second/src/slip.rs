@@ -1,6 +1,6 @@
 //! Wrong rules, planted so that the tests can show that they would see one.
 
-use crate::address::place;
+use crate::address::{address, code_block, fitted, place};
 use crate::cell::Cell;
 use crate::code::Code;
 use crate::command::Indirect;
@@ -48,11 +48,15 @@ pub enum Slip {
     WholeAttributesStored,
     /// KRL takes the nibble from the other half of R3.
     NibbleFromOtherHalf,
+    /// The lists take a byte of a code that is not fitted for its mirror in a block that is.
+    NotFittedMirrored,
+    /// A row has no list where a block of its codes is not fitted.
+    PartlyFittedForgotten,
 }
 
 impl Slip {
     /// All that are planted.
-    pub const PLANTED: [Slip; 15] = [
+    pub const PLANTED: [Slip; 17] = [
         Slip::UserSliceForgotten,
         Slip::RowAboveForgotten,
         Slip::ChainStopsAfterOneRow,
@@ -68,13 +72,17 @@ impl Slip {
         Slip::EightyReadsAsForty,
         Slip::WholeAttributesStored,
         Slip::NibbleFromOtherHalf,
+        Slip::NotFittedMirrored,
+        Slip::PartlyFittedForgotten,
     ];
 
     /// The list that the slip takes for a row's.
     fn places(self, page: &Page, row: usize) -> Vec<usize> {
-        match page.mode {
-            Mode::Forty => self.places_of_forty(page, row),
-            Mode::Eighty => self.places_of_eighty(page, row),
+        match (self, page.mode) {
+            (Slip::NotFittedMirrored, _) => with_mirrors(page, row),
+            (Slip::PartlyFittedForgotten, _) if !is_fitted(page) => Vec::new(),
+            (_, Mode::Forty) => self.places_of_forty(page, row),
+            (_, Mode::Eighty) => self.places_of_eighty(page, row),
         }
     }
 
@@ -169,9 +177,9 @@ fn code_places_of_next_district(page: &Page, row: usize) -> Vec<usize> {
     let (y, third) = (screen_y(page.ror, row), (first_block(page.ror) + 2) % 16);
     let mut list = Vec::new();
     for column in 0..COLUMNS {
-        list.push(page.code_place(row, column, 0));
-        list.push(page.code_place(row, column, 1));
-        list.push(place(column, y, third));
+        list.extend(page.code_address(row, column, 0).fitted());
+        list.extend(page.code_address(row, column, 1).fitted());
+        list.extend(address(column, y, third, page.blocks).fitted());
     }
     list
 }
@@ -185,6 +193,23 @@ fn with_next_district(page: &Page, row: usize) -> Vec<usize> {
     while at != 0 && has_double_height(page, at) {
         at -= 1;
         list.extend(code_places_of_next_district(page, at));
+    }
+    list
+}
+
+/// Whether all three blocks of the page's codes are fitted.
+fn is_fitted(page: &Page) -> bool {
+    let first = first_block(page.ror);
+    (0..3).all(|byte| fitted(code_block(first, byte), page.blocks))
+}
+
+/// The right list, and the places of the row's codes in the blocks modulo those that there are.
+fn with_mirrors(page: &Page, row: usize) -> Vec<usize> {
+    let mut list = places(page, row);
+    for byte in 0..3 {
+        let block = code_block(first_block(page.ror), byte) % page.blocks;
+        let y = screen_y(page.ror, row);
+        list.extend((0..COLUMNS).map(|column| place(column, y, block)));
     }
     list
 }

@@ -1,6 +1,6 @@
 //! The twelve cases of the page's small set, each as the page words it.
 
-use second::address::{place, slice_place};
+use second::address::{place, slice_address, Address};
 use second::bench::Bench;
 use second::bichrome::slices_of_twenty_lines;
 use second::cell::Cell;
@@ -50,9 +50,10 @@ fn case_6_main_pointer() {
 
 #[test]
 fn case_7_user_slices() {
-    assert_eq!(slice_place(0x4B, 0, 3), Some(3651));
-    assert_eq!(slice_place(0x4B, 9, 3), Some(3223));
-    assert_eq!(slice_place(0xCB, 0, 3), Some(3651), "bit 7 of C is ignored");
+    let slice = |c, slice| slice_address(c, slice, 3, 16);
+    assert_eq!(slice(0x4B, 0), Address::Fitted(3651));
+    assert_eq!(slice(0x4B, 9), Address::Fitted(3223));
+    assert_eq!(slice(0xCB, 0), slice(0x4B, 0), "bit 7 of C is ignored");
 }
 
 #[test]

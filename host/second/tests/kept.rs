@@ -1,5 +1,5 @@
 //! The kept picture equals the fresh one after every accepted draw of random sequences, in both modes
-//! and from one mode to the other.
+//! and from one mode to the other, on each of the three boards.
 
 mod expected;
 
@@ -43,7 +43,7 @@ struct Met {
     underlined: usize,
     hidden: usize,
     negative: usize,
-    numbers: [usize; 10],
+    numbers: [usize; 13],
 }
 
 impl Met {
@@ -55,10 +55,10 @@ impl Met {
     }
 }
 
-fn random_bench(sequence: &mut Sequence, seed: u64) -> Bench {
+fn random_bench(sequence: &mut Sequence, seed: u64, blocks: u8) -> Bench {
     let mut random = Random::new(seed ^ 0xABCD);
-    let mut bench = Bench::power_up();
-    bench.memory = sequence.memory();
+    let mut bench = Bench::power_up_board(blocks);
+    bench.memory = sequence.memory(bench.processor.blocks);
     bench.rom = random.bytes(6_400);
     bench.picture = random.bytes(40_000);
     bench
@@ -162,10 +162,10 @@ fn draw(met: &mut Met, random: &mut Random, bench: &mut Bench) {
     }
 }
 
-fn run(met: &mut Met, seed: u64, operations: usize) {
+fn run(met: &mut Met, seed: u64, operations: usize, blocks: u8) {
     let mut random = Random::new(!seed);
     let mut sequence = Sequence::new(seed);
-    let mut bench = random_bench(&mut sequence, seed);
+    let mut bench = random_bench(&mut sequence, seed, blocks);
     for _ in 0..operations {
         let operation = sequence.operation(&bench.processor, &bench.memory);
         if operation == Operation::Draw {
@@ -184,7 +184,7 @@ fn run(met: &mut Met, seed: u64, operations: usize) {
 fn kept_equals_fresh() {
     let mut met = Met::default();
     for seed in 0..80 {
-        run(&mut met, seed, 1_000);
+        run(&mut met, seed, 1_000, 16);
     }
     println!("{met:?}");
     for drawn in [&met.forty, &met.eighty] {
@@ -215,6 +215,30 @@ fn kept_equals_fresh() {
     }
 }
 
+#[test]
+fn kept_equals_fresh_on_the_smaller_boards() {
+    // The first so many pages are those of which a block is fitted.
+    for (blocks, fitted) in [(2, 2), (8, 4)] {
+        let mut met = Met::default();
+        for seed in 200..220 {
+            run(&mut met, seed, 1_000, blocks);
+        }
+        println!("{blocks} blocks: {met:?}");
+        for drawn in [&met.forty, &met.eighty] {
+            assert!(drawn.accepted > 300, "{drawn:?}");
+            assert!(drawn.partial > 100, "{drawn:?}");
+            assert!(drawn.from_other_mode > 20, "{drawn:?}");
+            let (pages, others) = drawn.first_blocks.split_at(fitted);
+            assert!(pages.iter().all(|times| *times > 20), "{drawn:?}");
+            assert!(others.iter().sum::<usize>() > 10, "{drawn:?}");
+        }
+        for number in [0, 2, 4, 9] {
+            assert!(met.numbers[number] > 0, "number {number} was not met");
+        }
+        assert!(met.numbers[11] > 300, "{:?}", met.numbers);
+    }
+}
+
 /// What the marks of single operations showed in one mode.
 #[derive(Debug, Default)]
 struct Marked {
@@ -230,10 +254,30 @@ struct Marked {
 
 #[test]
 fn operations_mark_the_rows_of_the_lists_and_no_other() {
+    for blocks in [2, 8, 16] {
+        let marked = marked_on(blocks);
+        println!("{blocks} blocks: {marked:?}");
+        for marked in &marked {
+            assert!(marked.stores > 300, "{marked:?}");
+            assert!(marked.turns > 30, "{marked:?}");
+            // Of 2 blocks only a page at 2 has a third that is fitted.
+            let least = if blocks == 2 { 2 } else { 11 };
+            assert!(marked.partial_turns >= least, "{marked:?}");
+            assert!(marked.mats > 5, "{marked:?}");
+        }
+        // In 80 columns most bytes that 40 would take as slices are on no list. Of 2 blocks a page
+        // most often has both.
+        let (eighty, least) = (&marked[1], if blocks == 2 { 1 } else { 6 });
+        assert!(eighty.unseen >= least && eighty.mats > 20, "{eighty:?}");
+    }
+}
+
+/// The operations of some sequences on a board, each of which must leave the marks of the lists.
+fn marked_on(blocks: u8) -> [Marked; 2] {
     let mut marked = [Marked::default(), Marked::default()];
     for seed in 100..116 {
         let mut sequence = Sequence::new(seed);
-        let mut bench = random_bench(&mut sequence, seed);
+        let mut bench = random_bench(&mut sequence, seed, blocks);
         for _ in 0..1_000 {
             let operation = sequence.operation(&bench.processor, &bench.memory);
             let before = bench.clone();
@@ -253,16 +297,7 @@ fn operations_mark_the_rows_of_the_lists_and_no_other() {
             }
         }
     }
-    println!("{marked:?}");
-    for marked in &marked {
-        assert!(marked.stores > 300, "{marked:?}");
-        assert!(marked.turns > 30, "{marked:?}");
-        assert!(marked.partial_turns > 10, "{marked:?}");
-        assert!(marked.mats > 5, "{marked:?}");
-    }
-    // In 80 columns most bytes that 40 would take as slices are on no list.
-    let eighty = &marked[1];
-    assert!(eighty.unseen > 5 && eighty.mats > 20, "{eighty:?}");
+    marked
 }
 
 fn count(marked: &mut Marked, before: &Bench, after: &Bench) {
@@ -283,7 +318,7 @@ fn count(marked: &mut Marked, before: &Bench, after: &Bench) {
 #[test]
 fn a_fresh_processor_with_the_same_registers_draws_the_same_picture() {
     let mut sequence = Sequence::new(77);
-    let mut bench = random_bench(&mut sequence, 77);
+    let mut bench = random_bench(&mut sequence, 77, 16);
     let mut compared = [0; 2];
     while compared.iter().any(|times| *times < 40) {
         let operation = sequence.operation(&bench.processor, &bench.memory);

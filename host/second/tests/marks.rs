@@ -293,7 +293,7 @@ fn the_list_takes_slices_and_rows_above() {
 
 /// A random drawable state over a random memory, in either mode.
 fn random_state(random: &mut Random) -> (Processor, Vec<u8>, Vec<u8>) {
-    let memory = Sequence::new(random.number()).memory();
+    let memory = Sequence::new(random.number()).memory(16);
     let mode = random.choice(&[Mode::Forty, Mode::Eighty]);
     let mut processor = Processor::power_up();
     processor.tgs = mode.tgs();

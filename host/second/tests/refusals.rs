@@ -21,6 +21,7 @@ fn state(command: u8) -> Processor {
         lx_auxiliary: false,
         phase: 1,
         marks,
+        blocks: 16,
     }
 }
 

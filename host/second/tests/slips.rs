@@ -83,10 +83,10 @@ fn wrongly_packed(step: &Step) -> bool {
 }
 
 /// The number of operations until something wrong is seen, if it ever is.
-fn caught<R: Rules>(rules: &R, wrong: Wrong, seed: u64) -> Option<usize> {
+fn caught<R: Rules>(rules: &R, wrong: Wrong, blocks: u8, seed: u64) -> Option<usize> {
     let mut sequence = Sequence::new(seed);
-    let mut bench = Bench::power_up();
-    bench.memory = sequence.memory();
+    let mut bench = Bench::power_up_board(blocks);
+    bench.memory = sequence.memory(bench.processor.blocks);
     bench.rom = Random::new(seed).bytes(6_400);
     for count in 1..=OPERATIONS {
         let operation = sequence.operation(&bench.processor, &bench.memory);
@@ -105,10 +105,15 @@ fn caught<R: Rules>(rules: &R, wrong: Wrong, seed: u64) -> Option<usize> {
     None
 }
 
-fn is_caught(slip: Slip, wrong: Wrong) {
-    let found = (0..SEEDS).find_map(|seed| caught(&slip, wrong, seed).map(|count| (seed, count)));
+fn is_caught_on(blocks: u8, slip: Slip, wrong: Wrong) {
+    let caught = |seed| caught(&slip, wrong, blocks, seed).map(|count| (seed, count));
+    let found = (0..SEEDS).find_map(caught);
     let (seed, count) = found.unwrap_or_else(|| panic!("{slip:?} was not caught"));
-    println!("{slip:?}: seed {seed}, operation {count}");
+    println!("{slip:?}: {blocks} blocks, seed {seed}, operation {count}");
+}
+
+fn is_caught(slip: Slip, wrong: Wrong) {
+    is_caught_on(16, slip, wrong);
 }
 
 #[test]
@@ -187,6 +192,18 @@ fn a_nibble_from_the_other_half_is_caught() {
 }
 
 #[test]
+fn mirrors_of_what_is_not_fitted_are_caught() {
+    for blocks in [2, 8] {
+        is_caught_on(blocks, Slip::NotFittedMirrored, wrongly_marked);
+    }
+}
+
+#[test]
+fn a_page_forgotten_since_a_block_of_it_is_not_fitted_is_caught() {
+    is_caught_on(2, Slip::PartlyFittedForgotten, stale);
+}
+
+#[test]
 fn the_planted_slips_differ() {
     for (at, slip) in Slip::PLANTED.iter().enumerate() {
         assert_ne!(*slip, Slip::None);
@@ -197,9 +214,11 @@ fn the_planted_slips_differ() {
 #[test]
 fn the_right_rules_are_not_caught() {
     let wrong: Wrong = |step| stale(step) || wrongly_packed(step);
-    for seed in 0..4 {
-        assert_eq!(caught(&PageRules, wrong, seed), None);
-        assert_eq!(caught(&Slip::None, wrong, seed), None);
+    for blocks in [2, 8, 16] {
+        for seed in 0..4 {
+            assert_eq!(caught(&PageRules, wrong, blocks, seed), None);
+            assert_eq!(caught(&Slip::None, wrong, blocks, seed), None);
+        }
     }
     // That their marks are those of the lists is seen over more sequences where pictures are kept.
 }

@@ -3,6 +3,8 @@
 use std::ffi::{OsStr, OsString};
 use std::path::PathBuf;
 
+use binturamis::Board;
+
 use crate::terminal::Asked;
 
 pub const HELP: &str = "\
@@ -15,6 +17,7 @@ after the other from power-up; - is standard input. An odd last byte is ignored.
                 has narrow letters for a page of 80 columns
   --png FILE    writes the picture as a PNG too
   --phase 0|1   the phase of what flashes; else 0
+  --blocks N    the blocks of the board's private memory: 2, 8 or 16; else 16
   --plain       without colour, --colour with it; else as the terminal has it
   --help        says this
 
@@ -39,6 +42,7 @@ pub struct Arguments {
     pub rom: Option<PathBuf>,
     pub png: Option<PathBuf>,
     pub phase: u8,
+    pub board: Board,
     pub asked: Option<Asked>,
 }
 
@@ -67,6 +71,7 @@ pub fn parse(words: impl Iterator<Item = OsString>) -> Result<Command, String> {
         rom: parser.rom,
         png: parser.png,
         phase: parser.phase.unwrap_or(0),
+        board: parser.board.unwrap_or(Board::Sixteen),
         asked: parser.asked,
     }))
 }
@@ -77,6 +82,7 @@ struct Parser {
     rom: Option<PathBuf>,
     png: Option<PathBuf>,
     phase: Option<u8>,
+    board: Option<Board>,
     asked: Option<Asked>,
 }
 
@@ -92,6 +98,10 @@ impl Parser {
             Some("--phase") => {
                 let phase = phase(&operand("--phase", words)?)?;
                 once(&mut self.phase, "--phase", phase)
+            }
+            Some("--blocks") => {
+                let board = board(&operand("--blocks", words)?)?;
+                once(&mut self.board, "--blocks", board)
             }
             Some("--plain") => once(&mut self.asked, "--plain or --colour", Asked::Plain),
             Some("--colour") => once(&mut self.asked, "--plain or --colour", Asked::Colour),
@@ -128,4 +138,13 @@ fn phase(word: &OsStr) -> Result<u8, String> {
             word.to_string_lossy()
         )),
     }
+}
+
+fn board(word: &OsStr) -> Result<Board, String> {
+    let blocks = word.to_str().and_then(|word| word.parse().ok());
+    let board = blocks.and_then(|blocks| Board::from_blocks(blocks).ok());
+    board.ok_or_else(|| {
+        let word = word.to_string_lossy();
+        format!("a board has 2, 8 or 16 blocks, and not {word}")
+    })
 }

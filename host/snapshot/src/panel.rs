@@ -2,7 +2,7 @@
 
 use std::fmt::{self, Display, Formatter};
 
-use binturamis::{Panel, Refusal, Width, ROM_BYTES};
+use binturamis::{Board, Panel, Refusal, Width, ROM_BYTES};
 
 use crate::access::Access;
 
@@ -42,9 +42,10 @@ pub fn play(panel: &mut Panel, accesses: &[Access]) -> Played {
     played
 }
 
-/// The width of the page that the accesses ask for. It does not depend on the ROM.
-pub fn width(accesses: &[Access]) -> Width {
-    let mut panel = Panel::new([0; ROM_BYTES]);
+/// The width of the page that the accesses ask for. It depends on the board, since TGS may get what a
+/// command has read, or was refused to read; it does not depend on the ROM.
+pub fn width(board: Board, accesses: &[Access]) -> Width {
+    let mut panel = Panel::with_board(board, [0; ROM_BYTES]);
     play(&mut panel, accesses);
     panel.state().width()
 }

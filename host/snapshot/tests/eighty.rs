@@ -100,13 +100,13 @@ fn cells_go_on_with_one_write_where_only_the_character_differs() {
 
 #[test]
 fn cells_are_stored_where_the_page_has_them() {
-    let memory = *panel(|writer| {
+    let panel = panel(|writer| {
         for (row, position) in [(0, 0), (0, 79), (1, 0), (1, 79), (24, 78)] {
             writer.at(row, position);
             writer.cell(Code::character(0x42, PLAIN.negative()));
         }
-    })
-    .memory();
+    });
+    let memory = panel.memory();
     // The place in a block, the block of C, and the nibble of the attributes.
     for (place, block, attributes) in [
         (0, 0, 0x80),
@@ -124,13 +124,13 @@ fn cells_are_stored_where_the_page_has_them() {
 /// After the last position the pointer stands at the first one of the same row, and is not set anew.
 #[test]
 fn a_whole_row_ends_where_it_began() {
-    let memory = *panel(|writer| {
+    let panel = panel(|writer| {
         writer.at(0, 0);
         (0..80).for_each(|c| writer.cell(Code::character(c, PLAIN)));
         writer.at(0, 0);
         writer.cell(Code::character(0x7F, PLAIN));
-    })
-    .memory();
+    });
+    let memory = panel.memory();
     assert_eq!(memory[0], 0x7F);
     assert!(memory[1..40].iter().copied().eq((1..40).map(|x| 2 * x)));
     let odd = &memory[1024..1064];

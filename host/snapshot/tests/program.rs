@@ -228,6 +228,38 @@ fn refused_accesses_are_told_and_do_not_stop_it() {
     assert_eq!(printed(&output).lines().nth(5), Some("▝ ▘▘"));
 }
 
+/// The example has its slice in block 3, by OCT, and its cell in blocks 0 to 2, by KRF.
+#[test]
+fn a_smaller_board_refuses_what_is_not_fitted() {
+    let accesses = with("board", &EXAMPLE);
+    for blocks in ["8", "16"] {
+        let output = run(&[&accesses, path("--blocks"), path(blocks)]);
+        assert!(output.status.success(), "{}", told(&output));
+        assert!(!told(&output).contains("refused"), "{}", told(&output));
+        assert_eq!(printed(&output).lines().nth(5), Some("▝ ▘▘"));
+    }
+    let output = run(&[&accesses, path("--blocks"), path("2")]);
+    assert!(output.status.success(), "{}", told(&output));
+    let first = "2 of 14 accesses refused, the first of them access 8, at byte 14, the value 52 to \
+                 the address 29: refusal 11: a byte of the command lies in a block that is not fitted";
+    assert!(told(&output).contains(first), "{}", told(&output));
+    assert!(printed(&output).lines().all(|line| line.trim().is_empty()));
+}
+
+/// Characters 41 hex in both cells of the first column, by OCT: the attributes are not fitted.
+#[test]
+fn a_board_of_2_blocks_shows_plain_text_in_80_columns() {
+    let bytes = [
+        0x21, 0xC0, 0x28, 0x81, 0x21, 0x07, 0x28, 0x84, 0x21, 0x08, 0x28, 0x87, 0x20, 0x30, 0x29,
+        0x41, 0x27, 0x80, 0x29, 0x41,
+    ];
+    let accesses = with("plain-text", &bytes);
+    let output = run(&[&accesses, path("--blocks"), path("2")]);
+    assert!(output.status.success(), "{}", told(&output));
+    assert!(!told(&output).contains("refused"), "{}", told(&output));
+    assert_eq!(printed(&output).lines().nth(1), Some("▌ ▌▌ ▌"));
+}
+
 #[test]
 fn an_odd_last_byte_is_told_and_ignored() {
     let mut bytes = EXAMPLE.to_vec();
@@ -293,6 +325,23 @@ fn a_wrong_command_line_is_told() {
         (&["a", "--fast"], "there is no flag --fast"),
         (&["a", "--phase", "2"], "the phase is 0 or 1, and not 2"),
         (&["a", "--phase"], "--phase is the last word"),
+        (
+            &["a", "--blocks", "4"],
+            "a board has 2, 8 or 16 blocks, and not 4",
+        ),
+        (
+            &["a", "--blocks", "258"],
+            "a board has 2, 8 or 16 blocks, and not 258",
+        ),
+        (
+            &["a", "--blocks", "many"],
+            "a board has 2, 8 or 16 blocks, and not many",
+        ),
+        (&["a", "--blocks"], "--blocks is the last word"),
+        (
+            &["a", "--blocks", "2", "--blocks", "8"],
+            "--blocks is given twice",
+        ),
         (&["a", "--rom"], "--rom is the last word"),
         (&["a", "--png", "b", "--png", "c"], "--png is given twice"),
         (
@@ -311,7 +360,9 @@ fn a_wrong_command_line_is_told() {
 fn help_is_printed() {
     let output = run(&[path("--help")]);
     assert!(output.status.success());
-    for flag in ["--rom", "--png", "--phase", "--plain", "--colour", "--help"] {
+    for flag in [
+        "--rom", "--png", "--phase", "--blocks", "--plain", "--colour", "--help",
+    ] {
         assert!(printed(&output).contains(flag));
     }
 }

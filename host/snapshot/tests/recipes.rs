@@ -6,7 +6,7 @@ mod checks;
 
 use std::ops::Range;
 
-use binturamis::{Panel, Width, ROWS};
+use binturamis::{Board, Panel, Width, ROWS};
 use snapshot::panel::{play, width};
 use snapshot::raster::Raster;
 use snapshot::recipes::page;
@@ -35,7 +35,7 @@ fn cell(raster: &Raster, row: usize, position: usize) -> Vec<u8> {
 
 #[test]
 fn every_access_is_accepted_and_every_row_drawn_once() {
-    assert_eq!(width(&page()), Width::Eighty);
+    assert_eq!(width(Board::Sixteen, &page()), Width::Eighty);
     let mut panel = panel();
     let redrawn = panel.draw().expect("a right page");
     assert_eq!((redrawn.count(), redrawn.width()), (25, Width::Eighty));

@@ -84,11 +84,14 @@ fn a_whole_row_ends_where_it_began() {
 #[test]
 fn slices_are_stored_where_the_rules_have_them() {
     let slices = [1, 2, 3, 4, 5, 6, 7, 8, 9, 10];
-    let memory = *panel(|writer| writer.slices(3, 0x4B, &slices)).memory();
+    let panel_of = |block| panel(|writer| writer.slices(block, 0x4B, &slices));
+    let panel = panel_of(3);
+    let memory = panel.memory();
     assert_eq!((memory[3651], memory[3223]), (1, 10));
     assert_eq!(memory.iter().filter(|byte| **byte != 0).count(), 10);
     // Block 13 has Z3, Z2 and Z0 set.
-    let memory = *panel(|writer| writer.slices(13, 0x4B, &slices)).memory();
+    let panel = panel_of(13);
+    let memory = panel.memory();
     assert_eq!(
         (memory[3651 + 10 * 1024], memory[3223 + 10 * 1024]),
         (1, 10)
@@ -100,14 +103,14 @@ fn slices_are_stored_where_the_rules_have_them() {
 fn the_two_pointers_do_not_disturb_each_other() {
     let look = Look::of(Colour::White, Colour::Black);
     let cell = Code::bichrome(Set::G0, 0x41, look);
-    let memory = *panel(|writer| {
+    let panel = panel(|writer| {
         writer.at(1, 0);
         writer.slices(8, 0x20, &[0xFF; 10]);
         writer.cell(cell);
         writer.at(2, 0);
         writer.slices(0, 0x7F, &[0xEE; 10]);
-    })
-    .memory();
+    });
+    let memory = panel.memory();
     assert_eq!(memory[256], 0x41);
     assert_eq!(memory[8 * 1024 + 256], 0xFF);
     assert_eq!(memory[32 * 31 + 3], 0xEE);

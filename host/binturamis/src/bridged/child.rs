@@ -13,11 +13,12 @@ use crate::size::{PROCESSOR_BYTES, STATE_BYTES};
 const DIRECTORY: &str = env!("BINTURAMIS_LIBRARY");
 
 /// The bridge's first line. A bridge that greets with another one is of another version.
-const GREETING: &[u8] = b"binturamis bridge 2\n";
+const GREETING: &[u8] = b"binturamis bridge 3\n";
 
 #[derive(Clone, Copy)]
 pub enum Call {
     PowerUp = b'P' as isize,
+    PowerUpBoard = b'B' as isize,
     Write = b'W' as isize,
     Read = b'R' as isize,
     Turn = b'T' as isize,

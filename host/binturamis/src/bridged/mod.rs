@@ -25,6 +25,12 @@ pub fn power_up(processor: &mut Processor) {
     *processor = done.processor;
 }
 
+pub fn power_up_board(processor: &mut Processor, blocks: u8) -> u32 {
+    let done = with_child(|child| child.ask(Call::PowerUpBoard, [blocks, 0], processor, []));
+    *processor = done.processor;
+    done.answered
+}
+
 pub fn write(processor: &mut Processor, memory: &mut [u8], address: u8, value: u8) -> u32 {
     access(Call::Write, [address, value], processor, memory)
 }

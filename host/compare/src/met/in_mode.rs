@@ -2,32 +2,39 @@
 
 use std::fmt;
 
-use second::Operation;
+use second::{Operation, BLOCKS};
 
 use super::krl::Krl;
 use crate::trial::Step;
 
 /// How often each number was answered to each kind of operation.
-type Numbers = [[usize; 10]; 4];
+type Numbers = [[usize; 13]; KINDS.len()];
+
+const KINDS: [&str; 5] = ["write", "read", "phase change", "draw", "power-up"];
 
 /// The numbers that each kind of operation can get.
-pub type Possible = [(&'static str, &'static [usize]); 4];
+type Possible = [&'static [usize]; KINDS.len()];
 
-/// In either mode.
-pub const IN_A_MODE: Possible = [
-    ("write", &[0, 1, 2, 3, 4]),
-    ("read", &[0, 1, 2, 3, 4]),
-    ("phase change", &[0, 1, 9]),
-    ("draw", &[0, 1, 5, 6, 7, 8]),
+/// On a smaller board.
+const SMALLER: Possible = [
+    &[0, 1, 2, 3, 4, 11],
+    &[0, 1, 2, 3, 4, 11],
+    &[0, 1, 9],
+    &[0, 1, 5, 6, 7, 8],
+    &[0, 12],
 ];
 
-/// In none, where a draw gets 7 before its picture is looked at.
-pub const IN_NO_MODE: Possible = [
-    ("write", &[0, 1, 2, 3, 4]),
-    ("read", &[0, 1, 2, 3, 4]),
-    ("phase change", &[0, 1, 9]),
-    ("draw", &[1, 5, 7]),
+/// On that of 16 blocks, where every byte is fitted.
+const FULL: Possible = [
+    &[0, 1, 2, 3, 4],
+    &[0, 1, 2, 3, 4],
+    &[0, 1, 9],
+    &[0, 1, 5, 6, 7, 8],
+    &[0, 12],
 ];
+
+/// Where TGS names no mode a draw gets 7 before its picture is looked at.
+const DRAW_IN_NO_MODE: &[usize] = &[1, 5, 7];
 
 #[derive(Default)]
 pub struct InMode {
@@ -92,10 +99,26 @@ impl InMode {
         assert!(self.phases.iter().all(|count| *count >= least), "{self}");
     }
 
-    /// Fails where a number that a kind of operation can get was met fewer times than `least`, or
-    /// another one at all.
-    pub fn assert_every_number(&self, kinds: Possible, least: usize) {
-        for (kind, (name, possible)) in kinds.iter().enumerate() {
+    /// How often a number was answered, to whatever operation.
+    pub fn times(&self, number: usize) -> usize {
+        self.numbers.iter().map(|counts| counts[number]).sum()
+    }
+
+    /// Fails where a number that a kind of operation can get on a board was met fewer times than
+    /// `least`, or another one at all.
+    pub fn assert_every_number(&self, blocks: usize, least: usize) {
+        self.assert_numbers(of_board(blocks), least);
+    }
+
+    /// The same where TGS named no mode.
+    pub fn assert_every_number_in_no_mode(&self, blocks: usize, least: usize) {
+        let [write, read, turn, _, power_up] = of_board(blocks);
+        self.assert_numbers([write, read, turn, DRAW_IN_NO_MODE, power_up], least);
+    }
+
+    fn assert_numbers(&self, possible: Possible, least: usize) {
+        for (kind, possible) in possible.into_iter().enumerate() {
+            let name = KINDS[kind];
             for (number, count) in self.numbers[kind].into_iter().enumerate() {
                 if possible.contains(&number) {
                     assert!(count >= least, "{name}: number {number} only {count} times");
@@ -107,10 +130,18 @@ impl InMode {
     }
 }
 
+fn of_board(blocks: usize) -> Possible {
+    if blocks < BLOCKS {
+        SMALLER
+    } else {
+        FULL
+    }
+}
+
 /// Whether a draw is refused for a picture that would be right in the other mode.
 fn has_other_length(step: &Step) -> bool {
     let mode = step.before.mode();
-    let length = step.asked.lengths(mode).picture;
+    let length = step.asked.lengths(mode, step.before.blocks).picture;
     let other = mode.map(|mode| mode.other().picture());
     step.report.number == 6 && Some(length) == other
 }
@@ -121,13 +152,14 @@ fn kind_of(operation: Operation) -> usize {
         Operation::Read { .. } => 1,
         Operation::Turn { .. } => 2,
         Operation::Draw => 3,
+        Operation::PowerUp { .. } => 4,
     }
 }
 
 impl fmt::Display for InMode {
     fn fmt(&self, to: &mut fmt::Formatter) -> fmt::Result {
-        for (kind, (name, _)) in IN_A_MODE.iter().enumerate() {
-            writeln!(to, "{name}, numbers 0 to 9: {:?} times", self.numbers[kind])?;
+        for (name, numbers) in KINDS.iter().zip(self.numbers) {
+            writeln!(to, "{name}, numbers 0 to 12: {numbers:?} times")?;
         }
         writeln!(to, "left in phase 0, 1: {:?} times", self.phases)?;
         writeln!(to, "accepted draws of 0 to 25 rows: {:?}", self.rows)?;

@@ -2,7 +2,7 @@
 
 use std::fmt;
 
-use second::address::{code_block, slice_place};
+use second::address::{code_block, slice_address, Address};
 use second::cell::{Cell, Set, Source};
 use second::half::{shows_lower, shows_right};
 use second::page::first_block;
@@ -107,8 +107,8 @@ impl Shown<'_> {
     }
 
     fn has_no_slices(&self) -> bool {
-        let place = |z| slice_place(self.cell.c, 0, z);
-        self.block().is_some_and(|z| place(z).is_none())
+        let address = |z| slice_address(self.cell.c, 0, z, self.page.blocks);
+        self.block().is_some_and(|z| address(z) == Address::Illegal)
     }
 
     fn is_shown_block(&self, z: usize) -> bool {

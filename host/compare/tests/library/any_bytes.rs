@@ -12,11 +12,12 @@ use compare::unplanned::unplanned;
 use second::random::Random;
 use second::{Mode, Operation};
 
-/// Where TGS stands among the bytes of a processor.
+/// Where TGS and the board stand among the bytes of a processor.
 const TGS: usize = 9;
+const BOARD: usize = 44;
 
 /// Any bytes; small ones, so that many pages can be drawn; or power-up's, but for a few. Every second
-/// one has the bits of 80 columns.
+/// one has the bits of 80 columns, and two of three the byte of one of the boards.
 fn any_bytes(random: &mut Random) -> [u8; PROCESSOR_BYTES] {
     let mut bytes = *Processor::power_up().bytes();
     match random.below(3) {
@@ -30,6 +31,9 @@ fn any_bytes(random: &mut Random) -> [u8; PROCESSOR_BYTES] {
     }
     if random.one_in(2) {
         bytes[TGS] |= Mode::Eighty.tgs();
+    }
+    if !random.one_in(3) {
+        bytes[BOARD] = random.choice(&[0, 2, 8, 16]);
     }
     bytes
 }
@@ -74,13 +78,14 @@ fn second_processor(state: State) -> second::Processor {
         lx_auxiliary: state.status & 0x10 != 0,
         phase: state.phase,
         marks: state.marks,
+        blocks: usize::from(state.blocks),
     }
 }
 
 /// A few operations of any kind, a draw into a picture of any length, and then draws in both phases.
-fn any_operations(random: &mut Random) -> Vec<Asked> {
-    let mut operations = unplanned(random);
-    let lengths = Lengths::any_picture(random);
+fn any_operations(random: &mut Random, blocks: u8) -> Vec<Asked> {
+    let mut operations = unplanned(random, blocks);
+    let lengths = Lengths::any_picture(random, usize::from(blocks));
     operations.push(Asked::with(Operation::Draw, lengths));
     let phase = random.byte() % 2;
     let phases = [phase, 1 - phase].map(|phase| Operation::Turn { phase });
@@ -98,7 +103,7 @@ fn any_operations(random: &mut Random) -> Vec<Asked> {
 /// How often each number was answered, and what the bytes told that no run from power-up leaves.
 #[derive(Debug, Default)]
 struct Met {
-    numbers: [usize; 10],
+    numbers: [usize; 13],
     phases_above_1: usize,
     both_lx: usize,
     /// Of 40 columns and of 80: rows redrawn in all, and those in such a phase.
@@ -106,9 +111,24 @@ struct Met {
     rows_above_1: [usize; 2],
     /// Refusals that left alone bytes which no call leaves.
     left_alone: usize,
+    /// Processors of each board by its own byte; of 16 blocks by a byte that no call leaves.
+    boards: [usize; 3],
+    no_board: usize,
 }
 
 impl Met {
+    /// "0 stands for 16 blocks", and so does a byte that names none of the boards.
+    fn look_at_board(&mut self, byte: u8, blocks: u8) {
+        let (board, wanted) = match byte {
+            2 => (0, 2),
+            8 => (1, 8),
+            _ => (2, 16),
+        };
+        assert_eq!(blocks, wanted, "the board of byte {byte}");
+        self.boards[board] += 1;
+        self.no_board += usize::from(![0, 2, 8, 16].contains(&byte));
+    }
+
     fn look(&mut self, asked: Asked, report: &Report) {
         self.numbers[usize::from(report.number)] += 1;
         self.phases_above_1 += usize::from(report.phase > 1);
@@ -137,11 +157,12 @@ fn assert_once_more(
     assert!(before.picture == after.picture, "{told}: another picture");
 }
 
-/// "After the others nothing has changed": with refusals 1, 2 and 5 to 9, and with 3 and 4 of a
+/// "After the others nothing has changed": with refusals 1, 2 and 5 to 9, and with 3, 4 and 11 of a
 /// read, which changes no register by itself.
 fn leaves_alone(asked: Asked, number: u8) -> bool {
     match asked.operation {
         Operation::Write { .. } => number == 1 || number == 2,
+        Operation::PowerUp { .. } => false,
         _ => number != 0,
     }
 }
@@ -156,8 +177,9 @@ fn look_at_bytes(
     after: &Processor,
 ) -> bool {
     let mut packed = report.packed();
+    let is_power_up = matches!(asked.operation, Operation::PowerUp { .. });
     // The three indirect registers that no command names stay.
-    for r in [0, 5, 6] {
+    for r in [0, 5, 6].into_iter().filter(|_| !is_power_up) {
         packed[8 + r] = before.bytes()[8 + r];
     }
     if leaves_alone(asked, report.number) {
@@ -172,9 +194,14 @@ fn look_at_bytes(
 fn compare_one(seed: u64, met: &mut Met) {
     let mut random = Random::new(seed);
     let library = any_desk(&mut random);
+    let (byte, blocks) = (
+        library.processor.bytes()[BOARD],
+        library.processor.state().blocks,
+    );
+    met.look_at_board(byte, blocks);
     let second = second_desk(&library);
     let mut pair = Pair::of(seed, library, second);
-    for asked in any_operations(&mut random) {
+    for asked in any_operations(&mut random, blocks) {
         let mut before = pair.library.clone();
         let report = pair.apply(asked);
         let told = format!("seed {seed}, {asked:?}");
@@ -192,8 +219,11 @@ fn every_operation_has_one_outcome_and_it_is_the_second_programs() {
         compare_one(seed, &mut met);
     }
     println!("{met:?}");
-    let rare = met.numbers.iter().min().copied().unwrap_or(0);
+    let numbers = (0..).zip(met.numbers).filter(|(number, _)| *number != 10);
+    let rare = numbers.map(|(_, times)| times).min().unwrap_or(0);
     assert!(rare >= 30, "a number that is rare: {met:?}");
+    assert!(met.boards.iter().all(|times| *times > 200), "{met:?}");
+    assert!(met.no_board > 200, "{met:?}");
     assert!(met.phases_above_1 > 1_000 && met.both_lx > 1_000, "{met:?}");
     let mut rows = met.rows.into_iter().chain(met.rows_above_1);
     assert!(rows.all(|rows| rows > 1_000), "{met:?}");

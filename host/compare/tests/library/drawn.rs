@@ -13,9 +13,11 @@ const ROR: u8 = 0x87;
 /// Where the marks stand among the bytes of a processor.
 const MARKS: usize = 19;
 
-/// A processor from power-up that shows the page, every row of it marked. The page's memory is lent.
+/// A processor from power-up of the page's board that shows the page, every row of it marked. The page's
+/// memory is lent.
 pub fn shown(page: &mut Page) -> Result<Processor, Refusal> {
     let mut processor = Processor::power_up();
+    binturamis::power_up(&mut processor, page.blocks as u8)?;
     for (command, value) in [
         (TGS, page.tgs),
         (MAT, page.mat),
@@ -55,4 +57,15 @@ pub fn draw(mut processor: Processor, page: &Page) -> Result<(Redrawn, Vec<u8>),
     let left = processor.state().marks;
     assert_eq!(left, [false; binturamis::ROWS], "the marks of seed {seed}");
     Ok((redrawn, picture))
+}
+
+/// The picture before, with the second program's rows where a row is marked.
+pub fn wanted(page: &Page) -> Vec<u8> {
+    let (fresh, length) = (page.fresh_picture(), page.mode.row());
+    let mut wanted = page.picture.clone();
+    for row in page.marked_rows() {
+        let bytes = length * row..length * (row + 1);
+        wanted[bytes.clone()].copy_from_slice(&fresh[bytes]);
+    }
+    wanted
 }

@@ -1,6 +1,7 @@
 //! The library held to the second program.
 
 mod any_bytes;
+mod boards;
 mod codes;
 mod drawn;
 mod eighty_columns;

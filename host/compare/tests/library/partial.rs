@@ -8,18 +8,7 @@ use compare::page::{pages, Page};
 use compare::seen::{SeenEighty, SeenForty};
 use second::Mode;
 
-use crate::drawn::{draw, marked, shown};
-
-/// The picture before, with the second program's rows where a row is marked.
-fn wanted(page: &Page) -> Vec<u8> {
-    let (fresh, length) = (page.fresh_picture(), page.mode.row());
-    let mut wanted = page.picture.clone();
-    for row in page.marked_rows() {
-        let bytes = length * row..length * (row + 1);
-        wanted[bytes.clone()].copy_from_slice(&fresh[bytes]);
-    }
-    wanted
-}
+use crate::drawn::{draw, marked, shown, wanted};
 
 /// Compares so many pages of a mode, each of which is looked at too.
 fn compare(mode: Mode, pages: u64, mut look: impl FnMut(&Page)) -> Result<(), Refusal> {

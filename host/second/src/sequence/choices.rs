@@ -42,10 +42,27 @@ impl Sequence {
         }
     }
 
-    /// A value for ROR whose origin is 8 to 31.
-    pub(super) fn origin(&mut self) -> u8 {
+    /// A value for ROR whose origin is 8 to 31. On a smaller board most pages have a block that is
+    /// fitted: on that of 2 blocks those at 0, without their third, and those at 2, whose third is 0.
+    pub(super) fn origin(&mut self, blocks: usize) -> u8 {
         let byte = self.random.byte();
-        byte / 32 * 32 + 8 + byte % 24
+        let origin = 8 + byte % 24;
+        let first = match blocks {
+            2 if !self.random.one_in(5) => byte / 128,
+            8 if !self.random.one_in(4) => byte / 64,
+            _ => byte / 32,
+        };
+        32 * first + origin
+    }
+
+    /// A value for DOR, on a smaller board most often one that names blocks which are fitted.
+    pub(super) fn user_sets(&mut self, blocks: usize) -> u8 {
+        let byte = self.random.byte();
+        match blocks {
+            2 if !self.random.one_in(3) => byte & 0x01,
+            8 if !self.random.one_in(3) => byte & 0x37,
+            _ => byte,
+        }
     }
 
     pub(super) fn cell(&mut self) -> Cell {

@@ -7,9 +7,10 @@ use super::Sequence;
 
 impl Sequence {
     /// Makes the page drawable again, in either mode.
-    pub(super) fn mend(&mut self) {
+    pub(super) fn mend(&mut self, processor: &Processor) {
         let mode = self.random.choice(&[Mode::Forty, Mode::Eighty]);
-        let (tgs, pat, ror) = (self.tgs(mode), self.random.byte(), self.origin());
+        let (tgs, pat) = (self.tgs(mode), self.random.byte());
+        let ror = self.origin(processor.blocks);
         self.indirect(1, tgs);
         self.indirect(3, pat % 0x80);
         self.indirect(7, ror);
@@ -48,7 +49,8 @@ impl Sequence {
             _ => match r {
                 1 => self.tgs(processor.mode().unwrap_or(Mode::Forty)),
                 3 => self.random.byte() % 0x80,
-                7 => self.origin(),
+                4 => self.user_sets(processor.blocks),
+                7 => self.origin(processor.blocks),
                 _ => self.random.byte(),
             },
         };

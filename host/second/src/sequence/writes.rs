@@ -1,11 +1,12 @@
 //! The writes that plans are made of.
 
-use crate::address::code_block;
+use crate::address::{code_block, fitted};
 use crate::cell::Cell;
 use crate::operation::Operation;
 use crate::page::{first_block, screen_y};
 use crate::pointer::Pointer;
 use crate::processor::Processor;
+use crate::BLOCKS;
 
 use super::Sequence;
 
@@ -51,6 +52,9 @@ impl Sequence {
         column: usize,
         cell: Cell,
     ) {
+        if self.goes_by_bytes(processor) {
+            return self.store_bytes(processor, row, column, [cell.c, cell.b, cell.a]);
+        }
         self.point_at_cell(processor, row, column);
         self.write(0x22, cell.b);
         self.write(0x23, cell.a);
@@ -68,11 +72,53 @@ impl Sequence {
         c: u8,
         r3: u8,
     ) {
+        if self.goes_by_bytes(processor) {
+            return self.store_bytes(processor, row, position / 2, [c, c, r3]);
+        }
         self.point_at_position(processor, row, position);
         self.write(0x23, r3);
         let command = self.random.choice(&[0x50, 0x51]);
         self.write(0x20, command);
         self.write(0x29, c);
+    }
+
+    /// Whether a code goes by OCT, a byte at a time. Where a block of the page is not fitted KRF and KRL
+    /// are refused, so that most do.
+    fn goes_by_bytes(&mut self, processor: &Processor) -> bool {
+        let first = first_block(processor.ror);
+        let is_fitted = |byte| fitted(code_block(first, byte), processor.blocks);
+        !(0..3).all(is_fitted) && !self.random.one_in(4)
+    }
+
+    /// The three bytes of a column by OCT: those that are fitted, and now and then one that is not.
+    fn store_bytes(&mut self, processor: &Processor, row: usize, column: usize, values: [u8; 3]) {
+        for (byte, value) in values.into_iter().enumerate() {
+            let pointer = Pointer {
+                x: column,
+                y: screen_y(processor.ror, row),
+                z: code_block(first_block(processor.ror), byte),
+            };
+            if fitted(pointer.z, processor.blocks) || self.random.one_in(6) {
+                let auxiliary = self.random.one_in(2);
+                self.store_byte(processor, pointer, auxiliary, value);
+            }
+        }
+    }
+
+    /// A byte at any legal place of the board, and now and then of a block that it does not have.
+    pub(super) fn one_byte(&mut self, processor: &Processor) {
+        let blocks = if self.random.one_in(4) {
+            BLOCKS
+        } else {
+            processor.blocks
+        };
+        let pointer = Pointer {
+            x: self.column(),
+            y: screen_y(8, self.row()),
+            z: self.random.below(blocks),
+        };
+        let (auxiliary, value) = (self.random.one_in(2), self.value());
+        self.store_byte(processor, pointer, auxiliary, value);
     }
 
     /// One bit of a byte of the shown page, so that a cell changes in one respect alone.
@@ -83,7 +129,9 @@ impl Sequence {
             y: screen_y(processor.ror, row),
             z: code_block(first_block(processor.ror), byte),
         };
-        let value = memory[pointer.place()] ^ (1 << self.random.below(8));
+        // A place past the end is not fitted: it has no bits, and the store is refused.
+        let present = memory.get(pointer.place()).copied().unwrap_or(0);
+        let value = present ^ (1 << self.random.below(8));
         let auxiliary = self.random.one_in(2);
         self.store_byte(processor, pointer, auxiliary, value);
     }

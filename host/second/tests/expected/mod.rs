@@ -1,7 +1,9 @@
 //! The marks that an operation must leave, worked out from sets of places and from the bytes of a row.
 
+use second::address::place;
 use second::bench::Bench;
 use second::operation::Operation;
+use second::page::screen_y;
 use second::processor::Processor;
 use second::Mode;
 
@@ -9,6 +11,7 @@ use second::Mode;
 pub fn expected_marks(before: &Bench, operation: Operation, after: &Bench) -> [bool; 25] {
     match operation {
         Operation::Draw => [false; 25],
+        Operation::PowerUp { .. } => [true; 25],
         Operation::Turn { .. } => marks_of_turn(before, after),
         Operation::Write { .. } | Operation::Read { .. } => marks_of_access(before, after),
     }
@@ -23,7 +26,8 @@ fn marks_of_access(before: &Bench, after: &Bench) -> [bool; 25] {
         return [true; 25];
     }
     let mut marks = old.marks;
-    let changed = (0..16_384).filter(|place| before.memory[*place] != after.memory[*place]);
+    let places = 0..before.memory.len();
+    let changed = places.filter(|place| before.memory[*place] != after.memory[*place]);
     for place in changed {
         for (row, mark) in marks.iter_mut().enumerate() {
             *mark |= old.page_refusal().is_none()
@@ -45,12 +49,17 @@ fn marks_of_turn(before: &Bench, after: &Bench) -> [bool; 25] {
 }
 
 /// Whether a cell of a row has the flash attribute, by the three bytes of each column: A3 of a
-/// bichrome cell, or bits 6 and 2 of the attributes of the two characters of 80 columns.
+/// bichrome cell, or bits 6 and 2 of the attributes of the two characters of 80 columns. A byte past
+/// the end of the memory is not fitted, and 0.
 fn flashes(bench: &Bench, row: usize) -> bool {
-    let page = bench.processor.page(&bench.memory);
+    let (page, ror) = (bench.processor.page(&bench.memory), bench.processor.ror);
+    let byte = |x: usize, byte: usize| {
+        let first = 2 * usize::from(ror / 32);
+        let place = place(x, screen_y(ror, row), first / 4 * 4 + (first + byte) % 4);
+        bench.memory.get(place).copied().unwrap_or(0)
+    };
     (0..40).any(|x| {
-        let [first, second, third] =
-            [0, 1, 2].map(|byte| bench.memory[page.code_place(row, x, byte)]);
+        let [first, second, third] = [0, 1, 2].map(|number| byte(x, number));
         match page.mode {
             Mode::Forty => second < 0xC0 && third & 0x08 != 0,
             Mode::Eighty => {

@@ -6,7 +6,7 @@ use std::io::{self, ErrorKind, Read, Write};
 use std::path::Path;
 use std::process::ExitCode;
 
-use binturamis::{Panel, Width, ROM_BYTES};
+use binturamis::{Board, Panel, Width, ROM_BYTES};
 use snapshot::access::Access;
 use snapshot::arguments::{parse, Arguments, Command, Source, HELP};
 use snapshot::panel::{play, width};
@@ -56,10 +56,11 @@ fn show(arguments: &Arguments) -> Result<(), Failure> {
 fn drawn(arguments: &Arguments) -> Result<Raster, Failure> {
     let bytes = recorded(&arguments.accesses)?;
     let accesses = access::of_bytes(&bytes);
-    let mut panel = Panel::new(match &arguments.rom {
+    let rom = match &arguments.rom {
         Some(file) => read_rom(file)?,
-        None => demonstration_rom(&accesses)?,
-    });
+        None => demonstration_rom(arguments.board, &accesses)?,
+    };
+    let mut panel = Panel::with_board(arguments.board, rom);
     let played = play(&mut panel, &accesses);
     if bytes.len() % 2 == 1 {
         eprintln!("snapshot: the last byte has no partner and is ignored");
@@ -79,8 +80,8 @@ fn drawn(arguments: &Arguments) -> Result<Raster, Failure> {
 }
 
 /// The demonstration ROM for the width of the page.
-fn demonstration_rom(accesses: &[Access]) -> Result<[u8; ROM_BYTES], Failure> {
-    let built = match width(accesses) {
+fn demonstration_rom(board: Board, accesses: &[Access]) -> Result<[u8; ROM_BYTES], Failure> {
+    let built = match width(board, accesses) {
         Width::Forty => rom::demonstration(),
         Width::Eighty => rom::narrow(),
     };
