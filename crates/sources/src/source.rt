@@ -84,7 +84,8 @@ fn bare_slices(memory: &[u8], c: u8, z: u8) -> [u8; 10]
 }
 
 // The ten slices of a character in private memory of a board of so many blocks: 0 where no byte is read. They have one Y and one block, so that one
-// test of each tells it for all of them. (That [0; 10] is returned in one place alone spares the compiler's code a dozen instructions a cell.)
+// test of each tells it for all of them; the block is fitted where it starts before the end of memory. (That [0; 10] is returned in one place alone
+// spares the compiler's code a dozen instructions a cell.)
 pub fn kept_slices(memory: &[u8], blocks: u8, c: u8, z: u8) -> [u8; 10]
     requires { ⌜ length (now memory) ≡ bytesOf blocks ⌝ }
     ensures { λ r. ⌜ r ≡ table (keptSlice blocks (now (memory .entry)) c z) 10 ⌝ }
@@ -92,7 +93,7 @@ pub fn kept_slices(memory: &[u8], blocks: u8, c: u8, z: u8) -> [u8; 10]
     if !is_legal_y(c / 4 % 32) {
         return [0; 10];
     }
-    if z < blocks {
+    if (z as usize) * 1024 < memory.len() {
         return fitted_slices(memory, c, z);
     }
     bare_slices(memory, c, z)

@@ -1,7 +1,7 @@
 use Rattle.address.specs.Places.{blockAt, blockOf}
 use mathlib.Core.Path.{sym, _∙_}
 use native.Mathlib.Omega.{arith}
-use Rattle.address.proofs.Laws.{legal-page}
+use Rattle.address.proofs.Laws.{legal-page, legal-block}
 use Rattle.marking.proofs.Changes.{here-fits, block-fits, changed-fits, changed-at, code-changes, changes-none}
 use borrow.Author.Needs.{needs}
 use Rattle.marking.proofs.store.code_marks.Statement.{statement}
@@ -38,7 +38,12 @@ block-requires-3 c κs = search needs
 changed-block-requires-3 : tie.Need-changed-block-requires-3
 changed-block-requires-3 c κs = let s = c .before .before .before .before .before .before .before .before .before in
     let board = s .args .shown .blocks in
-    (s .pre .0, here-fits board (blockAt (s .args .at) 2) _ (s .pre .3) (c .before .before .before .before .before .place-at .ensures), block-fits board _ (blockAt (s .args .at) 2) (s .pre .3) (c .block3 .ensures))
+    let second = legal-block board (blockAt (s .args .at) 1) (s .pre .2) in
+    let third = legal-block board (blockAt (s .args .at) 2) (s .pre .3) in (
+      s .pre .0,
+      here-fits board (blockAt (s .args .at) 2) _ (s .pre .3) (c .before .before .before .before .before .place-at .ensures),
+      omega (arith, c .block3 .ensures, second, third),
+    )
 
 some-changed-requires : tie.Need-some-changed-requires
 some-changed-requires c κs = search needs

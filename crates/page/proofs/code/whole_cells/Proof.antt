@@ -49,7 +49,14 @@ code-at-requires c κs = let p2 = c .before .before .before in
     let b1 = b2 .before in
     let s = b1 .before .before in
     let fits = byte-fits (s .args .y) (p1 .place-at .result) (p2 .place-at2 .result) (c .before .before .loop .x) (c .column-at .result) (p1 .place-at .ensures) (p2 .place-at2 .ensures) (omega arith) (c .column-at .ensures) (s .args .memory .now) (s .args .z) in
-    (fits 0 _ (b1 .block-start .ensures) (s .pre .3) (s .pre .0), fits 1 _ (b2 .block-start2 .ensures) (s .pre .3) (s .pre .1), fits 2 _ (b3 .block-start3 .ensures) (s .pre .3) (s .pre .2))
+    let h0 = s .pre .0 in
+    let h1 = s .pre .1 in
+    let h2 = s .pre .2 in
+    let low = s .pre .3 in (
+      fits _ _ (b1 .block-start .ensures) low (omega (arith, h0, h1, h2)),
+      fits _ _ (b2 .block-start2 .ensures) low (omega (arith, h0, h1, h2)),
+      fits _ _ (b3 .block-start3 .ensures) low (omega (arith, h0, h1, h2)),
+    )
 
 mul-cells : tie.Need-mul-cells Inv-loop μ-loop
 mul-cells c = search needs

@@ -15,6 +15,9 @@ unfolding joined
 returns c = let s = c .before .before .before in
     slices-none (s .args .blocks) (s .args .memory .now) (s .args .c) (s .args .z) _ _ (omega arith) (c .before .is-legal-y .ensures) (not-true _ (c .if1 .taken))
 
+mul-if2 : tie.Need-mul-if2
+mul-if2 c = search needs
+
 fitted-slices-requires : tie.Need-fitted-slices-requires
 fitted-slices-requires c κs = omega arith
 
@@ -36,4 +39,4 @@ returns-3 c = let e = c .before .before in
 pub kept-slices-spec : {M : Type 1} → statement M
 kept-slices-spec =
     tie.close
-    (tie.spec is-legal-y-requires returns fitted-slices-requires returns-2 bare-slices-requires returns-3)
+    (tie.spec is-legal-y-requires returns mul-if2 fitted-slices-requires returns-2 bare-slices-requires returns-3)
