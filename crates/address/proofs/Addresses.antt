@@ -16,7 +16,7 @@ use Rattle.address.specs.declared.answer.Address.{Address}
 use Rattle.address.specs.declared.answer.Address.the-variants.{Illegal, NotFitted, Fitted}
 use Rattle.address.specs.declared.triple.Triple.{Triple}
 use Rattle.address.specs.Addresses.{addressOf, isIllegal, isNotFitted, byteFrom, isAt}
-use Rattle.address.specs.Boards.{bytesOf}
+use Rattle.board.specs.Boards.{bytesOf}
 use Rattle.address.specs.Places.{placeOf, placeAt, byteAt}
 use Rattle.address.specs.Triples.{onPage, legal, fitted, legalIn}
 use Rattle.address.proofs.Laws.{legal-page, legal-block}

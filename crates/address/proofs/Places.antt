@@ -9,7 +9,7 @@ use native.Mathlib.Omega.{arith}
 use Rattle.basics.proofs.Choice.{lt-or-le, eq-or-ne}
 use Rattle.address.specs.declared.triple.Triple.{Triple}
 use Rattle.address.specs.Triples.{onPage, legalIn}
-use Rattle.address.specs.Boards.{bytesOf}
+use Rattle.board.specs.Boards.{bytesOf}
 use Rattle.address.specs.Places.{placeOf, blockOf, placeAt, blockAt}
 use Rattle.address.proofs.Laws.{triple, page-column, page-row, legal-page, legal-fitted, legal-block, place-left, place-service, place-right}
 

@@ -1,4 +1,3 @@
-pub mod Boards
 pub mod Triples
 pub mod Pointers
 pub mod Places

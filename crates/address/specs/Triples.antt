@@ -1,4 +1,4 @@
--- Legal: X 0..39, Y 0 or 8..31, Z 0..15; and fitted: its block is one of the board's.
+-- Legal: X 0..39, Y 0 or 8..31, Z 0..15, of a TS9347 0..31; and fitted: its block is one of the board's.
 -- Assumes nothing.
 use Prim.Native.Nat.{ℕ}
 use mathlib.Core.Bool.{Bool, _&&_, _||_}
@@ -17,7 +17,7 @@ legalY y = eqb y 0 || (leb 8 y && ltb y 32)
 unfoldable pub onPage : ℕ → ℕ → Bool
 onPage x y = legalX x && legalY y
 
--- X 0..39, Y 0 or 8..31. (Z 0..15 is all that a pointer's four bits can say: `main-block` and `auxiliary-block` of proofs/Pointers.)
+-- X 0..39, Y 0 or 8..31. (Z 0..15, or 0..31, is all that a pointer's four or five bits can say: `main-block` and `auxiliary-block` of proofs/Pointers.)
 abbrev pub legal : Triple → Bool
 legal t = onPage (t .x) (t .y)
 

@@ -2,7 +2,7 @@
 ghost use mathlib.Core.Path.{_≡_};
 ghost use mathlib.Core.Bool.{true};
 ghost use lib.ListN.{length};
-ghost use Rattle.address.specs.Boards.{bytesOf};
+ghost use Rattle.board.specs.Boards.{bytesOf};
 ghost use Rattle.address.specs.Places.{loaded, byteAt};
 ghost use Rattle.address.specs.Triples.{legalIn};
 use crate::place::place;

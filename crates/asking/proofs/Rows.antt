@@ -20,14 +20,18 @@ use Rattle.basics.proofs.Choice.{pick-either, bool-cases, lt-or-le, eq-or-ne, a
 use Rattle.address.specs.Places.{placeOf, blockOf}
 use Rattle.address.proofs.Laws.{place-left, place-service, place-right}
 use Rattle.address.proofs.Places.{place-within}
+use Rattle.board.specs.declared.Part.{Part}
+use Rattle.board.specs.declared.Part.the-variants.{Ef9345, Ts9347}
 use Rattle.cell.specs.Cells.{isQuadrichrome}
+use Rattle.cell.specs.HowCells.{lastBichrome}
 use Rattle.page.specs.HowCodes.{codeOf, Has}
+use Rattle.page.specs.Halves.{isTall}
 use Rattle.page.specs.Inputs.{flashes}
 use Rattle.narrow.specs.Codes.{evenOf, oddOf, pairFlashes}
 use Rattle.keys.specs.declared.key.Keys.{Keys}
 use Rattle.keys.specs.HowKeys.{keysHigh, isSource, fromBlock, keyed}
 use Rattle.asking.specs.HowAsked.{showsCharacter, blinks, codeFrom, flashAt, blinkAt, characterAt, keyedAt}
-use Rattle.page.proofs.Stretches.{stretch-place, bichrome-test, row-stretches}
+use Rattle.page.proofs.Stretches.{stretch-place, bichrome-test, tall-test, row-stretches}
 use Rattle.keys.proofs.Tests.{or-swap}
 
 -- the code of cell i of a stretch within a row
@@ -41,11 +45,30 @@ stretch-code first i column side m y z =
 text-test : (c : ℕ) → c < 256 → ltb c 128 ≡ not (isSet 7 c)
 text-test = agree-test (λ c. ltb c 128) (λ c. not (isSet 7 c)) 256 tt
 
+-- the B of a bichrome cell of an EF9345
+low-test : (b : ℕ) → b < 256 → ltb b 192 ≡ leb b (lastBichrome Ef9345)
+unfolding lastBichrome
+low-test = agree-test (λ b. ltb b 192) (λ b. leb b 191) 256 tt
+
 -- the tests of a cell, by the bytes that the code reads
 module _ (code : List ℕ) where
-  pub flash-test : (b a : ℕ) → b < 256 → b ≡ getD code 1 0 → a ≡ getD code 2 0 → (ltb b 192 && eqb (a / 8 % 2) 1) ≡ flashes code
+  pub flash-test :
+      (part : Part) (last b a : ℕ) → last ≡ lastBichrome part → b < 256 → b ≡ getD code 1 0 → a ≡ getD code 2 0
+      → (leb b last && eqb (a / 8 % 2) 1) ≡ flashes part code
   unfolding flashes
-  flash-test b a h e f = ap (λ (t : Bool). t && eqb (a / 8 % 2) 1) (bichrome-test b h) ∙ rw (e, f)
+  flash-test part last b a k h e f = ap (λ (t : Bool). t && eqb (a / 8 % 2) 1) (bichrome-test part last b k h) ∙ rw (e, f)
+
+  -- of an EF9345, by the number in the loop
+  pub low-flash : (b a : ℕ) → b < 256 → b ≡ getD code 1 0 → a ≡ getD code 2 0 → (ltb b 192 && eqb (a / 8 % 2) 1) ≡ flashes Ef9345 code
+  low-flash b a h e f = ap (λ (t : Bool). t && eqb (a / 8 % 2) 1) (low-test b h) ∙ flash-test Ef9345 _ b a refl h e f
+
+  pub low-tall : (b : ℕ) → b < 256 → b ≡ getD code 1 0 → (ltb b 192 && eqb (b / 2 % 2) 1) ≡ isTall Ef9345 code
+  low-tall b h e = ap (λ (t : Bool). t && eqb (b / 2 % 2) 1) (low-test b h) ∙ tall-test code Ef9345 _ b refl h e
+
+  -- of a TS9347 B1 alone tells double height
+  pub bit-1-test : (b : ℕ) → b ≡ getD code 1 0 → eqb (b / 2 % 2) 1 ≡ isTall Ts9347 code
+  unfolding isTall
+  bit-1-test b e = rw e
 
   -- in 80 columns
   pub pair-test :
@@ -81,9 +104,14 @@ module _ (code : List ℕ) where
   keyed-test c b keys e f = rw (e, f)
 
   -- a cell that does not blink does not flash
-  pub still-test : blinks code ≡ false → flashes code ≡ false
+  pub still-test : (part : Part) → blinks code ≡ false → flashes part code ≡ false
   unfolding blinks flashes
-  still-test e = ap (λ (t : Bool). not (isQuadrichrome (getD code 1 0)) && t) e ∙ and-false (not (isQuadrichrome (getD code 1 0)))
+  still-test part e = let bichrome = not (isQuadrichrome part (getD code 1 0)) in ap (λ (t : Bool). bichrome && t) e ∙ and-false bichrome
+
+  -- of a TS9347 it flashes exactly when it blinks
+  pub blink-flashes : blinks code ≡ flashes Ts9347 code
+  unfolding blinks flashes
+  blink-flashes = refl
 
 -- a byte where it fits, by a product
 pub taken-made : (fits : Bool) (byte : ℕ) → byte * boolByte fits ≡ pick fits byte 0
@@ -207,10 +235,11 @@ three-stretches f first second third p q r =
 
 -- where nothing blinks nothing flashes
 pub none-flashes :
-    (m : List ℕ) (z y n : ℕ) (t : Bool) → t ≡ anyBelow (λ k. blinkAt m z (y + k)) n → t ≡ false → (k : ℕ) → k < n → flashAt m z (y + k) ≡ false
-none-flashes m z y n t e off k l =
+    (part : Part) (m : List ℕ) (z y n : ℕ) (t : Bool) → t ≡ anyBelow (λ k. blinkAt m z (y + k)) n → t ≡ false
+    → (k : ℕ) → k < n → flashAt part m z (y + k) ≡ false
+none-flashes part m z y n t e off k l =
     any-never _ 40
-    (λ x h. still-test (codeOf m z (y + k) x) (any-not (λ i. blinks (codeOf m z (y + k) i)) 40 x (any-not (λ i. blinkAt m z (y + i)) n k (sym e ∙ off) l) h))
+    (λ x h. still-test (codeOf m z (y + k) x) part (any-not (λ i. blinks (codeOf m z (y + k) i)) 40 x (any-not (λ i. blinkAt m z (y + i)) n k (sym e ∙ off) l) h))
 
 -- where the keys need not be asked
 module _ (keys : Keys) (high : keysHigh keys ≡ true) where

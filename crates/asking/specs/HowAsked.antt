@@ -7,6 +7,7 @@ use mathlib.Core.List.{List, [], _∷_}
 use lib.Dec.{eqb, leb}
 use lib.ListN.{getD}
 use Rattle.basics.specs.Below.{anyBelow}
+use Rattle.board.specs.declared.Part.{Part}
 use Rattle.address.specs.Places.{placeOf, blockOf, byteAt}
 use Rattle.page.specs.HowCodes.{codeOf}
 use Rattle.page.specs.Halves.{isTall}
@@ -29,11 +30,11 @@ codeFrom m z y x i =
     byteAt m (placeOf x y (blockOf z 0) + i) ∷ byteAt m (placeOf x y (blockOf z 1) + i) ∷ byteAt m (placeOf x y (blockOf z 2) + i) ∷ []
 
 -- some cell of the row at Y, of the page whose first block is z
-abbrev pub tallAt : List ℕ → ℕ → ℕ → Bool
-tallAt m z y = anyBelow (λ x. isTall (codeOf m z y x)) 40
+abbrev pub tallAt : Part → List ℕ → ℕ → ℕ → Bool
+tallAt part m z y = anyBelow (λ x. isTall part (codeOf m z y x)) 40
 
-abbrev pub flashAt : List ℕ → ℕ → ℕ → Bool
-flashAt m z y = anyBelow (λ x. flashes (codeOf m z y x)) 40
+abbrev pub flashAt : Part → List ℕ → ℕ → ℕ → Bool
+flashAt part m z y = anyBelow (λ x. flashes part (codeOf m z y x)) 40
 
 -- in 80 columns: some column of it
 abbrev pub pairFlashAt : List ℕ → ℕ → ℕ → Bool

@@ -3,20 +3,24 @@ ghost use mathlib.Core.Path.{_≡_};
 ghost use mathlib.Core.Bool.{true, _||_};
 ghost use Prim.Native.Nat.{_+_, _≤_, _<_};
 ghost use Rattle.basics.specs.Below.{anyBelow};
+ghost use Rattle.board.specs.declared.Part.the-variants.{Ef9345, Ts9347};
 ghost use Rattle.page.specs.HowCodes.{Has};
 ghost use Rattle.asking.specs.HowAsked.{tallAt, flashAt, pairFlashAt, blinkAt, characterAt, keyedAt};
 ghost use Rattle.keys.specs.HowKeys.{keysHigh};
+use crate::stretch::some_bit_1;
 use crate::stretch::some_blink;
 use crate::stretch::some_character;
 use crate::stretch::some_flash;
 use crate::stretch::some_keyed;
 use crate::stretch::some_pair_flash;
 use crate::stretch::some_tall;
+use board::Part;
 use keys::key::Keys;
 
-pub fn has_tall(memory: &[u8], z: u8, y: u8) -> bool
+// Of an EF9345.
+fn has_bichrome_tall(memory: &[u8], z: u8, y: u8) -> bool
     requires { ⌜ Has (now memory) z 1 × (y < 32) ⌝ }
-    ensures { λ r. ⌜ r ≡ tallAt (now (memory .entry)) z y ⌝ }
+    ensures { λ r. ⌜ r ≡ tallAt Ef9345 (now (memory .entry)) z y ⌝ }
 {
     if some_tall(memory, z, y, 0, 32) {
         return true;
@@ -24,10 +28,31 @@ pub fn has_tall(memory: &[u8], z: u8, y: u8) -> bool
     some_tall(memory, z, y, 32, 8)
 }
 
-// Where a row flashes, a cell on its left does most often.
+// Of a TS9347, whose every cell is bichrome.
+fn has_bit_1(memory: &[u8], z: u8, y: u8) -> bool
+    requires { ⌜ Has (now memory) z 1 × (y < 32) ⌝ }
+    ensures { λ r. ⌜ r ≡ tallAt Ts9347 (now (memory .entry)) z y ⌝ }
+{
+    if some_bit_1(memory, z, y, 0, 32) {
+        return true;
+    }
+    some_bit_1(memory, z, y, 32, 8)
+}
+
+pub fn has_tall(part: Part, memory: &[u8], z: u8, y: u8) -> bool
+    requires { ⌜ Has (now memory) z 1 × (y < 32) ⌝ }
+    ensures { λ r. ⌜ r ≡ tallAt part (now (memory .entry)) z y ⌝ }
+{
+    match part {
+        Part::Ef9345 => has_bichrome_tall(memory, z, y),
+        Part::Ts9347 => has_bit_1(memory, z, y),
+    }
+}
+
+// Of an EF9345. Where a row flashes, a cell on its left does most often.
 fn has_flash(memory: &[u8], z: u8, y: u8) -> bool
     requires { ⌜ Has (now memory) z 1 × Has (now memory) z 2 × (y < 32) ⌝ }
-    ensures { λ r. ⌜ r ≡ flashAt (now (memory .entry)) z y ⌝ }
+    ensures { λ r. ⌜ r ≡ flashAt Ef9345 (now (memory .entry)) z y ⌝ }
 {
     if some_flash(memory, z, y, 0, 16) {
         return true;
@@ -46,7 +71,7 @@ fn has_pair_flash(memory: &[u8], z: u8, y: u8) -> bool
 // The service row has a question of its own, so that the other rows' has one caller and is compiled into its loop.
 pub fn service_is_marked_or_flashes(memory: &[u8], z: u8, marked: bool) -> bool
     requires { ⌜ Has (now memory) z 1 × Has (now memory) z 2 ⌝ }
-    ensures { λ r. ⌜ r ≡ (marked || flashAt (now (memory .entry)) z 0) ⌝ }
+    ensures { λ r. ⌜ r ≡ (marked || flashAt Ef9345 (now (memory .entry)) z 0) ⌝ }
 {
     if marked {
         return true;
@@ -96,15 +121,26 @@ fn has_keyed(memory: &[u8], z: u8, y: u8, keys: Keys) -> bool
     false
 }
 
-// The row is marked, or it flashes.
+// The row is marked, or it flashes, of an EF9345.
 pub fn is_marked_or_flashes(memory: &[u8], z: u8, y: u8, marked: bool) -> bool
     requires { ⌜ Has (now memory) z 1 × Has (now memory) z 2 × (y < 32) ⌝ }
-    ensures { λ r. ⌜ r ≡ (marked || flashAt (now (memory .entry)) z y) ⌝ }
+    ensures { λ r. ⌜ r ≡ (marked || flashAt Ef9345 (now (memory .entry)) z y) ⌝ }
 {
     if marked {
         return true;
     }
     has_flash(memory, z, y)
+}
+
+// The row is marked, or a cell of it has its A3 set: it flashes, of a TS9347.
+pub fn is_marked_or_blinks(memory: &[u8], z: u8, y: u8, marked: bool) -> bool
+    requires { ⌜ Has (now memory) z 2 × (y < 32) ⌝ }
+    ensures { λ r. ⌜ r ≡ (marked || blinkAt (now (memory .entry)) z y) ⌝ }
+{
+    if marked {
+        return true;
+    }
+    some_blink(memory, z, y, 0, 32) | some_blink(memory, z, y, 32, 8)
 }
 
 // The row is marked, or it flashes in 80 columns.

@@ -5,6 +5,7 @@ ghost use mathlib.Core.Path.{_≡_};
 ghost use Prim.Native.Nat.{_+_, _%_, _<_, _≤_};
 ghost use Rattle.basics.specs.Choice.{pick};
 ghost use Rattle.basics.specs.Below.{anyBelow};
+ghost use Rattle.board.specs.declared.Part.the-variants.{Ef9345, Ts9347};
 ghost use Rattle.address.specs.Places.{placeOf};
 ghost use Rattle.page.specs.HowCodes.{codeOf, Has};
 ghost use Rattle.page.specs.Halves.{isTall};
@@ -16,10 +17,10 @@ use keys::key::Keys;
 use page::stretch::start;
 use page::stretch::starts_of;
 
-// A cell of double height.
+// A cell of double height, of an EF9345. Each part has a question of its own, so that the limit of B is a number in the loop and not a variable.
 pub fn some_tall(memory: &[u8], z: u8, y: u8, first: u16, n: usize) -> bool
     requires { ⌜ Has (now memory) z 1 × (y < 32) × (first + n ≤ 40) × (first % 32 + n ≤ 32) ⌝ }
-    ensures { λ r. ⌜ r ≡ anyBelow (λ i. isTall (codeOf (now (memory .entry)) z y (first + i))) n ⌝ }
+    ensures { λ r. ⌜ r ≡ anyBelow (λ i. isTall Ef9345 (codeOf (now (memory .entry)) z y (first + i))) n ⌝ }
 {
     let b = start(z, y, first, 1);
     let mut found = false;
@@ -30,10 +31,23 @@ pub fn some_tall(memory: &[u8], z: u8, y: u8, first: u16, n: usize) -> bool
     found
 }
 
-// A cell that flashes.
+// A cell whose B1 is set, whatever else B is: one of double height, of a TS9347.
+pub fn some_bit_1(memory: &[u8], z: u8, y: u8, first: u16, n: usize) -> bool
+    requires { ⌜ Has (now memory) z 1 × (y < 32) × (first + n ≤ 40) × (first % 32 + n ≤ 32) ⌝ }
+    ensures { λ r. ⌜ r ≡ anyBelow (λ i. isTall Ts9347 (codeOf (now (memory .entry)) z y (first + i))) n ⌝ }
+{
+    let b = start(z, y, first, 1);
+    let mut found = false;
+    for i in 0..n {
+        found = found | (memory[b + i] / 2 % 2 == 1);
+    }
+    found
+}
+
+// A cell that flashes, of an EF9345.
 pub fn some_flash(memory: &[u8], z: u8, y: u8, first: u16, n: usize) -> bool
     requires { ⌜ Has (now memory) z 1 × Has (now memory) z 2 × (y < 32) × (first + n ≤ 40) × (first % 32 + n ≤ 32) ⌝ }
-    ensures { λ r. ⌜ r ≡ anyBelow (λ i. flashes (codeOf (now (memory .entry)) z y (first + i))) n ⌝ }
+    ensures { λ r. ⌜ r ≡ anyBelow (λ i. flashes Ef9345 (codeOf (now (memory .entry)) z y (first + i))) n ⌝ }
 {
     let b = start(z, y, first, 1);
     let a = start(z, y, first, 2);

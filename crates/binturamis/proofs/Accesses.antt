@@ -5,16 +5,16 @@ use Prim.Native.Nat.{ℕ, _/_, _%_, _<_}
 use mathlib.Core.Path.{_≡_, refl, sym, ap, _∙_}
 use mathlib.Core.Bool.{Bool, true, false, _&&_}
 use mathlib.Core.List.{List}
-use mathlib.Core.Logic.{_≢_}
+use mathlib.Core.Logic.{_≢_, ⊎-elim}
 use native.Mathlib.Omega.{arith}
 use lib.Dec.{eqb}
 use lib.ListN.{length, getD, set}
 use lib.Seq.{take-set-lt, drop-set-lt, getD-set-other}
 use borrow.Author.Tests.{eq-eqb, ne-eqb, eqb-true}
-use Rattle.address.specs.Boards.{bytesOf, fullBoard}
+use Rattle.board.specs.Boards.{bytesOf, fullBoard}
 use Rattle.basics.specs.Bits.{bits}
 use Rattle.basics.specs.Choice.{pick}
-use Rattle.basics.proofs.Choice.{and-left, and-right}
+use Rattle.basics.proofs.Choice.{and-left, and-right, bool-cases}
 use Rattle.processor.specs.declared.state.Processor.{Processor}
 use Rattle.processor.specs.declared.execute.Answered.{Answered}
 use Rattle.command.specs.Answers.{numberOf, valueOf}
@@ -27,10 +27,6 @@ use Rattle.packing.specs.Layouts.{packed, unpacked}
 use Rattle.binturamis.specs.Calls.{word, isRefusal, called, callOf}
 use Rattle.binturamis.proofs.Calls.{call-made}
 use Rattle.binturamis.proofs.Leaving.{accepted-packed}
-
--- a processor of another board
-abbrev withBlocks : Processor → ℕ → Processor
-withBlocks p n = record { registers = p .registers; indirect = p .indirect; lxm = p .lxm; lxa = p .lxa; phase = p .phase; marks = p .marks; blocks = n }
 
 -- a register written in the bytes is the register written
 unpacked-set : (bytes : List ℕ) (n v : ℕ) → n < 8 → unpacked (set bytes n v) ≡ withRegister (unpacked bytes) n v
@@ -50,9 +46,6 @@ unpacked-set bytes n v h =
 pub full-board : (bytes : List ℕ) → getD bytes 44 0 ≡ 0 → fullBoard ≡ unpacked bytes .blocks
 unfolding unpacked
 full-board bytes z = rw z
-
-pub full-made : (p : Processor) (bytes : List ℕ) → p ≡ unpacked bytes → getD bytes 44 0 ≡ 0 → withBlocks p fullBoard ≡ unpacked bytes
-full-made p bytes e z = rw (e, full-board bytes z)
 
 pub still-full : (bytes : List ℕ) (n v : ℕ) → n < 8 → getD bytes 44 0 ≡ 0 → getD (set bytes n v) 44 0 ≡ 0
 still-full bytes n v h z = getD-set-other bytes n 44 v 0 (λ e. omega arith) ∙ z
@@ -110,6 +103,12 @@ module _ (address v : ℕ) (m bytes : List ℕ) (w : ℕ)
 
   pub early-made : w ≢ 0 → called bytes m w ≡ callOf isEarly bytes (written address v before)
   early-made n = told .0 n
+
+  -- one that is not refused by 1 has the whole memory
+  pub late-length : w ≡ 0 → length m ≡ bytesOf (unpacked bytes .blocks)
+  late-length z =
+      ⊎-elim (λ t. eqb-true _ _ t) (λ f. let one : w ≡ word 1 0 = rw f at is in absurd (omega arith))
+      (bool-cases (eqb (length m) (bytesOf (unpacked bytes .blocks))))
 
   pub late-made :
       (p : Processor) (r : Answered) (after b : List ℕ) (answer : ℕ) → w ≡ 0 → p ≡ unpacked bytes → outcomeOf r after ≡ written address v (chip p m)

@@ -10,12 +10,13 @@ use lib.Dec.{eqb}
 use borrow.Author.Tests.{eqb-true}
 use Rattle.basics.specs.Choice.{pick}
 use Rattle.basics.proofs.Choice.{or-cases, pick-same}
-use Rattle.address.specs.Boards.{isBoard}
+use Rattle.board.specs.Boards.{isBoard}
+use Rattle.board.specs.declared.Part.{Part}
 use Rattle.processor.specs.declared.state.Processor.{Processor}
 use Rattle.processor.specs.Sizes.{Sized}
 use Rattle.kept.specs.Orders.{isEarly, isLate}
 use Rattle.kept.specs.Runs.{Operation, write, read, turn, draw, World, first, step, run, done, registered}
-use Rattle.kept.proofs.Boards.{board-stays, power-up-blocks}
+use Rattle.kept.proofs.Boards.{board-stays, power-up-board}
 use Rattle.kept.proofs.Refusals.{refusal-leaves}
 use Rattle.kept.proofs.Sizes.{step-sized, run-sized, power-up-sized}
 use Rattle.packing.specs.Layouts.{packed, unpacked}
@@ -46,10 +47,10 @@ stays (draw x y z) w e = refusal-leaves (draw x y z) w (refusal-refuses _ e) .0 
 
 -- the processor is one of a board, and stays one
 abbrev Board : World → Type 0
-Board w = isBoard (w .processor .blocks) ≡ true
+Board w = isBoard (w .processor .part) (w .processor .blocks) ≡ true
 
 board-after : (os : List Operation) (w : World) → Board w → Board (run os w)
-board-after os w b = rw (board-stays os w) b
+board-after os w b = rw (board-stays os w .0, board-stays os w .1) b
 
 -- one call on a processor that is packed is the operation on it
 abbrev doneBy : Operation → World → CallDone
@@ -71,22 +72,22 @@ calls-from [] w s b = refl
 calls-from (o ∷ os) w s b = ap (calls os) (call-step o w s b) ∙ calls-from os (step o w) (step-sized o w s) (board-after (o ∷ []) w b)
 
 -- from power-up
-board-first : (blocks : ℕ) (m rom picture : List ℕ) → isBoard blocks ≡ true → Board (first blocks m rom picture)
-board-first blocks m rom picture b = rw (power-up-blocks blocks) b
+board-first : (part : Part) (blocks : ℕ) (m rom picture : List ℕ) → isBoard part blocks ≡ true → Board (first part blocks m rom picture)
+board-first part blocks m rom picture b = rw (power-up-board part blocks .0, power-up-board part blocks .1) b
 
 pub calls-run : CallsRun
-calls-run os blocks m rom picture b =
-    calls-from os (first blocks m rom picture) (power-up-sized blocks) (board-first blocks m rom picture b)
+calls-run os part blocks m rom picture b =
+    calls-from os (first part blocks m rom picture) (power-up-sized part blocks) (board-first part blocks m rom picture b)
 
 pub calls-hold : CallsHold
-calls-hold os blocks m rom picture b =
-    let w = first blocks m rom picture in
-    ap (λ (b : Caller). unpacked (b .bytes)) (calls-run os blocks m rom picture b)
-    ∙ unpacked-packed (run os w .processor) (run-sized os w (power-up-sized blocks)) (board-after os w (board-first blocks m rom picture b))
+calls-hold os part blocks m rom picture b =
+    let w = first part blocks m rom picture in
+    ap (λ (b : Caller). unpacked (b .bytes)) (calls-run os part blocks m rom picture b)
+    ∙ unpacked-packed (run os w .processor) (run-sized os w (power-up-sized part blocks)) (board-after os w (board-first part blocks m rom picture b))
 
 pub calls-answer : CallsAnswer
-calls-answer os o blocks m rom picture b =
-    let w = first blocks m rom picture in
-    ap (λ (b : Caller). calledBy o b .answer) (calls-run os blocks m rom picture b)
+calls-answer os o part blocks m rom picture b =
+    let w = first part blocks m rom picture in
+    ap (λ (b : Caller). calledBy o b .answer) (calls-run os part blocks m rom picture b)
     ∙ ap (λ (d : CallDone). d .answer)
-    (call-done o (run os w) (run-sized os w (power-up-sized blocks)) (board-after os w (board-first blocks m rom picture b)))
+    (call-done o (run os w) (run-sized os w (power-up-sized part blocks)) (board-after os w (board-first part blocks m rom picture b)))

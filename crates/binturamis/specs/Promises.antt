@@ -5,7 +5,8 @@ use Prim.Native.Nat.{ℕ}
 use mathlib.Core.Path.{_≡_}
 use mathlib.Core.Bool.{Bool, true}
 use mathlib.Core.List.{List}
-use Rattle.address.specs.Boards.{isBoard}
+use Rattle.board.specs.Boards.{isBoard}
+use Rattle.board.specs.declared.Part.{Part}
 use Rattle.kept.specs.Orders.{isEarly}
 use Rattle.kept.specs.Runs.{Operation, write, read, turn, draw, first, run, done, lentOf, memoryLent, pictureLent}
 use Rattle.packing.specs.Layouts.{unpacked}
@@ -15,21 +16,21 @@ use Rattle.binturamis.specs.Runs.{Caller, callerOf, calledBy, calls}
 -- calls from the power-up of a board leave the memory and the picture of the same run of operations, and its processor packed
 abbrev pub CallsRun : Type 0
 CallsRun =
-    (os : List Operation) (blocks : ℕ) (m rom picture : List ℕ) → isBoard blocks ≡ true →
-    calls os (callerOf (first blocks m rom picture)) ≡ callerOf (run os (first blocks m rom picture))
+    (os : List Operation) (part : Part) (blocks : ℕ) (m rom picture : List ℕ) → isBoard part blocks ≡ true →
+    calls os (callerOf (first part blocks m rom picture)) ≡ callerOf (run os (first part blocks m rom picture))
 
 -- the 64 bytes mean that processor
 abbrev pub CallsHold : Type 0
 CallsHold =
-    (os : List Operation) (blocks : ℕ) (m rom picture : List ℕ) → isBoard blocks ≡ true →
-    unpacked (calls os (callerOf (first blocks m rom picture)) .bytes) ≡ run os (first blocks m rom picture) .processor
+    (os : List Operation) (part : Part) (blocks : ℕ) (m rom picture : List ℕ) → isBoard part blocks ≡ true →
+    unpacked (calls os (callerOf (first part blocks m rom picture)) .bytes) ≡ run os (first part blocks m rom picture) .processor
 
 -- and each call answers the number and the value of its operation
 abbrev pub CallsAnswer : Type 0
 CallsAnswer =
-    (os : List Operation) (o : Operation) (blocks : ℕ) (m rom picture : List ℕ) → isBoard blocks ≡ true →
-    let d = done o (run os (first blocks m rom picture)) in
-    calledBy o (calls os (callerOf (first blocks m rom picture))) .answer ≡ word (d .number) (d .value)
+    (os : List Operation) (o : Operation) (part : Part) (blocks : ℕ) (m rom picture : List ℕ) → isBoard part blocks ≡ true →
+    let d = done o (run os (first part blocks m rom picture)) in
+    calledBy o (calls os (callerOf (first part blocks m rom picture))) .answer ≡ word (d .number) (d .value)
 
 -- the numbers with which a call has changed nothing: of a write 1 and 2, since its register is written before 3, 4 and 11; of the others all
 abbrev pub leavesAlone : Operation → ℕ → Bool

@@ -7,9 +7,9 @@ ghost use Prim.Native.Nat.{_+_, _/_, _%_};
 ghost use lib.Dec.{eqb};
 ghost use Rattle.basics.specs.Bits.{bits};
 ghost use Rattle.basics.specs.Choice.{pick};
-ghost use Rattle.address.specs.Boards.{bytesOf};
+ghost use Rattle.board.specs.Boards.{bytesOf};
 ghost use Rattle.binturamis.specs.Calls.{word};
-use address::board::bytes_of;
+use board::bytes_of;
 
 // 4 times 8 is 2 in the address's high four bits with bit 3, which asks for execution, clear.
 pub fn is_plain(memory: usize, blocks: u8, address: u8) -> bool

@@ -13,15 +13,13 @@ ghost use Rattle.kept.specs.Orders.{isEarly};
 ghost use Rattle.binturamis.specs.Calls.{word, isRefusal, called, callOf, drawCalled, drawCallOf};
 
 mod access;
-mod board;
 mod leave;
+mod way;
 mod word;
 
 use access::is_plain;
 use access::past_32;
-use address::board::MEMORY_BYTES;
-use board::unpacked_full;
-use board::write_on_board;
+use board::MEMORY_BYTES;
 use leave::leave;
 use leave::leave_drawn;
 use leave::leave_written;
@@ -29,9 +27,11 @@ use packing::layout::packed;
 use packing::layout::unpacked;
 use packing::report::reported;
 use processor::state::Processor;
+use way::unpacked_full;
+use way::write_on_board;
 use word::power_word;
 
-// Power-up of 16 blocks, whatever the bytes held.
+// Power-up of an EF9345 with 16 blocks, whatever the bytes held.
 #[no_mangle]
 pub extern "C" fn binturamis_power_up(p: &mut [u8; 64])
     ensures { λ r. ⌜ now (p .exit) ≡ packed powerUp ⌝ }
@@ -41,10 +41,10 @@ pub extern "C" fn binturamis_power_up(p: &mut [u8; 64])
 
 // Power-up of a board that the caller names, whatever the bytes held.
 #[no_mangle]
-pub extern "C" fn binturamis_power_up_board(p: &mut [u8; 64], blocks: u8) -> u32
-    ensures { λ r. ⌜ (now (p .exit) ≡ packed (poweredUpBoard blocks .processor)) × (r ≡ word (powerNumberOf (poweredUpBoard blocks .answer)) 0) ⌝ }
+pub extern "C" fn binturamis_power_up_board(p: &mut [u8; 64], part: u8, blocks: u8) -> u32
+    ensures { λ r. ⌜ (now (p .exit) ≡ packed (poweredUpBoard part blocks .processor)) × (r ≡ word (powerNumberOf (poweredUpBoard part blocks .answer)) 0) ⌝ }
 {
-    let powered = Processor::power_up_board(blocks);
+    let powered = Processor::power_up_board(part, blocks);
     let first = powered.processor;
     let answer = powered.answer;
     *p = packed(first);

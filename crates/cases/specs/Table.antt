@@ -7,7 +7,8 @@ use mathlib.Core.List.{List, [], _∷_, _++_, map}
 use Rattle.basics.specs.Below.{countBelow, lastBelow}
 use Rattle.basics.specs.Parts.{joined}
 use Rattle.address.specs.Addresses.{addressOf}
-use Rattle.address.specs.Boards.{fullBoard}
+use Rattle.board.specs.Boards.{fullBoard}
+use Rattle.board.specs.declared.Part.the-variants.{Ef9345}
 use Rattle.address.specs.Triples.{legalY, onPage}
 use Rattle.address.specs.Pointers.{mainPointer}
 use Rattle.address.specs.Places.{placeOf}
@@ -18,7 +19,7 @@ use Rattle.address.specs.declared.answer.Address.the-variants.{Illegal, NotFitt
 use Rattle.shown.specs.declared.Shown.{Shown}
 use Rattle.colour.specs.Colours.{nibbleOf}
 use Rattle.colour.specs.Ranks.{colourOfRank, hasRank, rankOf}
-use Rattle.cell.specs.Cells.{cellOf, bichromeOf, quadrichromeOf, setOf, resolutionOf}
+use Rattle.cell.specs.Cells.{cellOf, bichromeOf, quadrichromeOf, ef9345Set, resolutionOf}
 use Rattle.pixels.specs.Slices.{sliceOfTwenty}
 use Rattle.pixels.specs.Pixels.{concealed, flashed, inverted, inked, cellLine}
 
@@ -36,7 +37,7 @@ place x y z = placeOf x y z ∷ []
 -- the triple that the main pointer's registers name, and its place
 pointer : ℕ → ℕ → List ℕ
 pointer r6 r7 =
-    let t = mainPointer r6 r7 in
+    let t = mainPointer Ef9345 r6 r7 in
     t .x ∷ t .y ∷ t .z ∷ placeOf (t .x) (t .y) (t .z) ∷ []
 
 -- the place of an address, which has one where it is legal and fitted
@@ -49,13 +50,13 @@ placed (Fitted p) = p ∷ []
 slice : ℕ → ℕ → ℕ → List ℕ
 slice c z nt = placed (sliceAddress fullBoard c nt z)
 
--- every register and the phase 0, on 16 blocks
+-- every register and the phase 0, of an EF9345 with 16 blocks
 allZero : Shown
-allZero = record { tgs = 0; mat = 0; pat = 0; dor = 0; ror = 0; phase = 0; blocks = fullBoard }
+allZero = record { tgs = 0; mat = 0; pat = 0; dor = 0; ror = 0; phase = 0; blocks = fullBoard; part = Ef9345 }
 
 -- the bytes of slice 0, whose byte is s, of the cell of three code bytes
 line : ℕ → ℕ → ℕ → ℕ → List ℕ
-line c b a s = cellLine (cellOf c b a) allZero false 0 s
+line c b a s = cellLine (cellOf Ef9345 c b a) allZero false 0 s
 
 -- the colours of some ranks
 ranks : ℕ → List ℕ → List ℕ
@@ -79,5 +80,5 @@ twelve =
 
 -- every case holds of the definitions that the contracts cite
 pub cases : map (λ c. c .given) twelve ≡ map (λ c. c .wanted) twelve
-unfolding twelve case place pointer placed slice allZero line ranks placeOf legalY onPage addressOf sliceAddress rowY colourOfRank lastBelow hasRank rankOf countBelow joined cellLine cellOf bichromeOf quadrichromeOf setOf resolutionOf concealed flashed inverted inked sliceOfTwenty
+unfolding twelve case place pointer placed slice allZero line ranks placeOf legalY onPage addressOf sliceAddress rowY colourOfRank lastBelow hasRank rankOf countBelow joined cellLine cellOf bichromeOf quadrichromeOf ef9345Set resolutionOf concealed flashed inverted inked sliceOfTwenty
 cases = refl

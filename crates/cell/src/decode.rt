@@ -3,17 +3,19 @@ ghost use mathlib.Core.Path.{_≡_};
 ghost use mathlib.Core.Bool.{_&&_};
 ghost use lib.ListN.{getD};
 ghost use Rattle.basics.specs.Bits.{isSet};
-ghost use Rattle.cell.specs.Cells.{setOf, alphanumericOf, resolutionOf, bichromeOf, quadrichromeOf, cellOf};
+ghost use Rattle.cell.specs.Cells.{ef9345Set, ts9347Set, setOf, alphanumericOf, resolutionOf, bichromeOf, quadrichromeOf, cellOf};
+ghost use Rattle.cell.specs.HowCells.{lastBichrome};
 use crate::kind::BichromeCell;
 use crate::kind::Cell;
 use crate::kind::QuadrichromeCell;
 use crate::kind::Resolution;
 use crate::kind::Set;
+use board::Part;
 use colour::Colour;
 
-// The set that B7..B4 name, of a bichrome cell.
-pub fn set_of(high: u8) -> Set
-    ensures { λ r. ⌜ r ≡ setOf high ⌝ }
+// The set that B7..B4 name, of a bichrome cell of an EF9345.
+fn ef9345_set(high: u8) -> Set
+    ensures { λ r. ⌜ r ≡ ef9345Set high ⌝ }
 {
     match high {
         0..=1 => Set::G0,
@@ -26,6 +28,37 @@ pub fn set_of(high: u8) -> Set
     }
 }
 
+// The set that B names, of a TS9347. B6 is looked at where B7 is set alone.
+fn ts9347_set(b: u8) -> Set
+    ensures { λ r. ⌜ r ≡ ts9347Set b ⌝ }
+{
+    if b < 128 {
+        if b / 16 % 4 < 2 {
+            return Set::G0;
+        }
+        if b / 16 % 4 == 2 {
+            return Set::G10;
+        }
+        return Set::Goe;
+    }
+    if b < 160 {
+        return Set::UserG0;
+    }
+    if b < 192 {
+        return Set::UserG1(b / 16 % 2);
+    }
+    Set::Q(b / 8 % 8)
+}
+
+pub fn set_of(part: Part, b: u8) -> Set
+    ensures { λ r. ⌜ r ≡ setOf part b ⌝ }
+{
+    match part {
+        Part::Ef9345 => ef9345_set(b / 16),
+        Part::Ts9347 => ts9347_set(b),
+    }
+}
+
 pub fn is_alphanumeric(set: Set) -> bool
     ensures { λ r. ⌜ r ≡ alphanumericOf set ⌝ }
 {
@@ -35,8 +68,10 @@ pub fn is_alphanumeric(set: Set) -> bool
         Set::G11 => false,
         Set::G20 => true,
         Set::G21 => true,
+        Set::Goe => false,
         Set::UserG0 => true,
         Set::UserG1(_) => false,
+        Set::Q(_) => false,
     }
 }
 
@@ -59,10 +94,10 @@ pub fn resolution_of(b: u8) -> Resolution
     Resolution::High
 }
 
-pub fn bichrome(c: u8, b: u8, a: u8) -> BichromeCell
-    ensures { λ r. ⌜ r ≡ bichromeOf c b a ⌝ }
+pub fn bichrome(part: Part, c: u8, b: u8, a: u8) -> BichromeCell
+    ensures { λ r. ⌜ r ≡ bichromeOf part c b a ⌝ }
 {
-    let set = set_of(b / 16);
+    let set = set_of(part, b);
     let underline = is_underlined(set, b);
     let foreground = Colour::from_number(a / 16);
     let background = Colour::from_number(a);
@@ -70,7 +105,7 @@ pub fn bichrome(c: u8, b: u8, a: u8) -> BichromeCell
         character: c,
         set,
         underline,
-        wide: b / 8 % 2 == 1,
+        wide: (b < 192) & (b / 8 % 2 == 1),
         conceal: b / 4 % 2 == 1,
         tall: b / 2 % 2 == 1,
         negative: a / 128 % 2 == 1,
@@ -91,15 +126,25 @@ pub fn quadrichrome(c: u8, b: u8, a: u8) -> QuadrichromeCell
     }
 }
 
-// A code byte each: C, B, A. B from 192 on has bits 7 and 6 both set.
-pub fn decode(code: [u8; 3]) -> Cell
-    ensures { λ r. ⌜ r ≡ cellOf (getD code 0 0) (getD code 1 0) (getD code 2 0) ⌝ }
+// The last B of a bichrome cell: from 192 on bits 7 and 6 are both set.
+pub fn last_bichrome(part: Part) -> u8
+    ensures { λ r. ⌜ r ≡ lastBichrome part ⌝ }
+{
+    match part {
+        Part::Ef9345 => 191,
+        Part::Ts9347 => 255,
+    }
+}
+
+// A code byte each: C, B, A.
+pub fn decode(part: Part, code: [u8; 3]) -> Cell
+    ensures { λ r. ⌜ r ≡ cellOf part (getD code 0 0) (getD code 1 0) (getD code 2 0) ⌝ }
 {
     let c = code[0];
     let b = code[1];
     let a = code[2];
-    if b < 192 {
-        Cell::Bichrome(bichrome(c, b, a))
+    if b <= last_bichrome(part) {
+        Cell::Bichrome(bichrome(part, c, b, a))
     } else {
         Cell::Quadrichrome(quadrichrome(c, b, a))
     }

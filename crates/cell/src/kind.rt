@@ -7,10 +7,14 @@ pub enum Set {
     G11,
     G20,
     G21,
+    // The TS9347's GOE.
+    Goe,
     // G'0.
     UserG0,
     // G'10 or G'11, by s.
     UserG1(u8),
+    // A TS9347's user set, by B5..3; DOR 7 is the highest bit of its block.
+    Q(u8),
 }
 
 pub enum Resolution {

@@ -8,6 +8,8 @@ use lib.Dec.{ltb, eqb}
 use lib.ListN.{getD}
 use Rattle.basics.specs.Bits.{fromBits}
 use Rattle.basics.specs.Parts.{table}
+use Rattle.board.specs.declared.Part.{Part}
+use Rattle.board.specs.declared.Part.the-variants.{Ef9345, Ts9347}
 use Rattle.shown.specs.declared.Shown.{Shown}
 use Rattle.cell.specs.declared.kind.Cell.{Cell}
 use Rattle.pixels.specs.Slices.{sliceShown}
@@ -34,12 +36,18 @@ unfoldable pub isPlain : ℕ → Bool
 isPlain b = ltb b 128 && (eqb (b / 2 % 2) 0 && eqb (b / 8 % 2) 0)
 
 -- the ROM sets by B6..B4
-abbrev pub setNumber : ℕ → ℕ
-setNumber high = getD (0 ∷ 0 ∷ 1 ∷ 2 ∷ 3 ∷ 3 ∷ 4 ∷ 4 ∷ []) high 0
+abbrev pub setNumber : Part → ℕ → ℕ
+setNumber Ef9345 high = getD (0 ∷ 0 ∷ 1 ∷ 2 ∷ 3 ∷ 3 ∷ 4 ∷ 4 ∷ []) high 0
+setNumber Ts9347 high = getD (2 ∷ 2 ∷ 0 ∷ 1 ∷ 2 ∷ 2 ∷ 0 ∷ 1 ∷ []) high 0
+
+-- where the code's table of them has those of a part
+abbrev pub setsFrom : Part → ℕ
+setsFrom Ef9345 = 0
+setsFrom Ts9347 = 8
 
 -- the ten bytes of cell x, and those of every cell
 abbrev pub tenAt : List ℕ → List ℕ → Shown → List (List ℕ) → List Bool → List Bool → ℕ → List ℕ
-tenAt m rom shown cells lowers rights x = tenOf m rom shown (decoded (getD cells x [])) (getD lowers x false) (getD rights x false)
+tenAt m rom shown cells lowers rights x = tenOf m rom shown (decoded (shown .part) (getD cells x [])) (getD lowers x false) (getD rights x false)
 
 abbrev pub tensOf : List ℕ → List ℕ → Shown → List (List ℕ) → List Bool → List Bool → List ℕ
 tensOf m rom shown cells lowers rights = sideBySide (tenAt m rom shown cells lowers rights) 10
@@ -60,7 +68,7 @@ fromSteps steps = getD steps 0 0 ∷ (getD steps 0 0 + getD steps 1 0) % 256 ∷
 
 -- the four pairs of cell x, and those of every cell
 abbrev pub pairsAt : List (List ℕ) → Shown → ℕ → List ℕ
-pairsAt cells shown x = stepsOf (cellPairs (decoded (getD cells x [])) shown)
+pairsAt cells shown x = stepsOf (cellPairs (decoded (shown .part) (getD cells x [])) shown)
 
 abbrev pub pairsOf : List (List ℕ) → Shown → List ℕ
 pairsOf cells shown = sideBySide (pairsAt cells shown) 4

@@ -30,9 +30,10 @@ fn steps(four: [u8; 4]) -> [u8; 4]
 pub fn pairs_of(cells: [[u8; 3]; 40], shown: Shown) -> [u8; 160]
     ensures { λ r. ⌜ r ≡ pairsOf cells shown ⌝ }
 {
+    let part = shown.part;
     let mut pairs = [0u8; 160];
     for x in 0..40 {
-        let four = steps(cell_pairs(decode(cells[x]), shown));
+        let four = steps(cell_pairs(decode(part, cells[x]), shown));
         put_column(&mut pairs, x, &four);
     }
     pairs

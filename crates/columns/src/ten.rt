@@ -3,7 +3,7 @@ ghost use mathlib.Core.Path.{_≡_};
 ghost use Prim.Native.Nat.{_<_};
 ghost use lib.ListN.{length};
 ghost use Rattle.basics.specs.Parts.{table};
-ghost use Rattle.address.specs.Boards.{bytesOf};
+ghost use Rattle.board.specs.Boards.{bytesOf};
 ghost use Rattle.shown.specs.Lengths.{romBytes};
 ghost use Rattle.pixels.specs.HowPairs.{wideOf};
 ghost use Rattle.page.specs.Inputs.{decoded};
@@ -47,7 +47,7 @@ pub fn ten_of(
     lower: bool,
     right: bool,
 ) -> [u8; 10]
-    requires { ⌜ (length (now memory) ≡ bytesOf (shown .blocks)) × (length (now rom) ≡ romBytes) ⌝ }
+    requires { ⌜ (length (now memory) ≡ bytesOf (shown .blocks)) × (length (now rom) ≡ romBytes (shown .part)) ⌝ }
     ensures { λ r. ⌜ r ≡ tenOf (now (memory .entry)) (now (rom .entry)) shown cell lower right ⌝ }
 {
     let slices = shown_slices(cell, lower, slices_of(memory, rom, shown, cell));
@@ -68,15 +68,16 @@ fn put_ten(
     lower: bool,
     right: bool,
 )
-    requires { ⌜ (length (now tens) ≡ 400) × (x < 40) × (length (now memory) ≡ bytesOf (shown .blocks)) × (length (now rom) ≡ romBytes) ⌝ }
-    ensures { λ _. ⌜ now (tens .exit) ≡ table (putAt (now (tens .entry)) x (tenOf (now (memory .entry)) (now (rom .entry)) shown (decoded code) lower right)) 400 ⌝ }
+    requires { ⌜ (length (now tens) ≡ 400) × (x < 40) × (length (now memory) ≡ bytesOf (shown .blocks)) × (length (now rom) ≡ romBytes (shown .part)) ⌝ }
+    ensures { λ _. ⌜ now (tens .exit) ≡ table (putAt (now (tens .entry)) x (tenOf (now (memory .entry)) (now (rom .entry)) shown (decoded (shown .part) code) lower right)) 400 ⌝ }
 {
+    let part = shown.part;
     if is_plain(code[1]) {
-        let first = rom_start(code[0], code[1]);
+        let first = rom_start(part, code[0], code[1]);
         put_column(tens, x, &rom[first..first + 10]);
         return;
     }
-    let ten = ten_of(memory, rom, shown, decode(code), lower, right);
+    let ten = ten_of(memory, rom, shown, decode(part, code), lower, right);
     put_column(tens, x, &ten);
 }
 
@@ -89,7 +90,7 @@ pub fn tens_of(
     lowers: [bool; 40],
     rights: [bool; 40],
 ) -> [u8; 400]
-    requires { ⌜ (length (now memory) ≡ bytesOf (shown .blocks)) × (length (now rom) ≡ romBytes) ⌝ }
+    requires { ⌜ (length (now memory) ≡ bytesOf (shown .blocks)) × (length (now rom) ≡ romBytes (shown .part)) ⌝ }
     ensures { λ r. ⌜ r ≡ tensOf (now (memory .entry)) (now (rom .entry)) shown cells lowers rights ⌝ }
 {
     let mut tens = [0u8; 400];

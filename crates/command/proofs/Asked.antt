@@ -8,15 +8,17 @@ use lib.Dec.{leb, eqb}
 use borrow.Author.Tests.{leb-true}
 use Rattle.basics.specs.Choice.{pick}
 use Rattle.basics.proofs.Choice.{and-right}
+use Rattle.board.specs.declared.Part.{Part}
+use Rattle.board.specs.declared.Part.the-variants.{Ef9345, Ts9347}
 use Rattle.command.specs.declared.Command.{Command}
 use Rattle.command.specs.declared.Command.the-variants.{Nop, Ind, Krf, Oct, Krl, NotListed}
-use Rattle.command.specs.Commands.{between, commandOf, Asked}
+use Rattle.command.specs.Commands.{between, commandOf, listedFor, commandFor, Asked}
 
 asked-pick : (t : Bool) (x y : Command) → (t ≡ true → Asked x) → Asked y → Asked (pick t x y)
 asked-pick true x y f g = f refl
 asked-pick false x y f g = g
 
-pub asked : (b : ℕ) → Asked (commandOf b)
+asked : (b : ℕ) → Asked (commandOf b)
 unfolding commandOf
 asked b =
     asked-pick (between 0x90 0x91 b) Nop _ (λ t. tt)
@@ -32,3 +34,16 @@ asked b =
     (asked-pick (between 0x3C 0x3D b) (Oct true true (eqb b 0x3D)) _ (λ t. tt)
     (asked-pick (between 0x50 0x51 b) (Krl false (eqb b 0x51)) _ (λ t. tt)
     (asked-pick (between 0x58 0x59 b) (Krl true (eqb b 0x59)) NotListed (λ t. tt) tt))))))))))))
+
+asked-listed : (part : Part) (c : Command) → Asked c → Asked (listedFor part c)
+asked-listed Ef9345 c a = a
+asked-listed Ts9347 Nop a = tt
+asked-listed Ts9347 (Ind r reads) a = a
+asked-listed Ts9347 (Krf reads increments) a = tt
+asked-listed Ts9347 (Oct reads auxiliary increments) a = tt
+asked-listed Ts9347 (Krl reads increments) a = tt
+asked-listed Ts9347 NotListed a = tt
+
+pub asked-for : (part : Part) (b : ℕ) → Asked (commandFor part b)
+unfolding commandFor
+asked-for part b = asked-listed part (commandOf b) (asked b)

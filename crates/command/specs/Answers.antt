@@ -29,6 +29,7 @@ valueOf (access.the-variants.NotFitted v) = v
 abbrev pub powerNumberOf : power.PowerUp → ℕ
 powerNumberOf power.the-variants.Accepted = 0
 powerNumberOf power.the-variants.WrongBoard = 12
+powerNumberOf power.the-variants.UnknownPart = 14
 
 -- of a draw
 abbrev pub drawNumberOf : drawing.Drawing → ℕ

@@ -4,6 +4,8 @@ use Prim.Native.Nat.{ℕ, _-_, _<_}
 use mathlib.Core.Bool.{Bool, true, false, _&&_}
 use lib.Dec.{leb, eqb}
 use Rattle.basics.specs.Choice.{pick}
+use Rattle.board.specs.declared.Part.{Part}
+use Rattle.board.specs.declared.Part.the-variants.{Ef9345, Ts9347}
 use Rattle.command.specs.declared.Command.{Command}
 use Rattle.command.specs.declared.Command.the-variants.{Nop, Ind, Krf, Oct, Krl, NotListed}
 
@@ -28,6 +30,20 @@ commandOf b =
     (pick (between 0x3C 0x3D b) (Oct true true (eqb b 0x3D))
     (pick (between 0x50 0x51 b) (Krl false (eqb b 0x51))
     (pick (between 0x58 0x59 b) (Krl true (eqb b 0x59)) NotListed))))))))))))
+
+-- NOP, IND, KRF and OCT run for a TS9347, by the same bytes; everything else is not listed
+abbrev pub listedFor : Part → Command → Command
+listedFor Ef9345 c = c
+listedFor Ts9347 Nop = Nop
+listedFor Ts9347 (Ind r reads) = Ind r reads
+listedFor Ts9347 (Krf reads increments) = Krf reads increments
+listedFor Ts9347 (Oct reads auxiliary increments) = Oct reads auxiliary increments
+listedFor Ts9347 (Krl reads increments) = NotListed
+listedFor Ts9347 NotListed = NotListed
+
+-- the command that a byte names, of a part
+unfoldable pub commandFor : Part → ℕ → Command
+commandFor part b = listedFor part (commandOf b)
 
 -- of the commands that a byte names, an IND names one of the eight registers
 abbrev pub Asked : Command → Type 0

@@ -22,8 +22,10 @@ pub enum Answer {
 // Of a power-up.
 pub enum PowerUp {
     Accepted,
-    // 12: the number of blocks is not 2, 8 or 16.
+    // 12: the number of blocks is not 2, 8 or 16, or 32 of a TS9347.
     WrongBoard,
+    // 14: the part is neither an EF9345 nor a TS9347.
+    UnknownPart,
 }
 
 // Of a draw, with the number of rows.
@@ -31,7 +33,7 @@ pub enum Drawing {
     Accepted(usize),
     // 1: private memory is not 1,024 bytes for each block of the board.
     WrongMemory,
-    // 5: ROM is not 6,400 bytes.
+    // 5: ROM is not 6,400 bytes, or 3,840 of a TS9347.
     WrongRom,
     // 6: picture is not 40,000 bytes, or 60,000 in 80 columns.
     WrongPicture,
@@ -78,6 +80,7 @@ impl PowerUp {
         match self {
             PowerUp::Accepted => 0,
             PowerUp::WrongBoard => 12,
+            PowerUp::UnknownPart => 14,
         }
     }
 }

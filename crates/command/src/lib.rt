@@ -2,7 +2,8 @@
 pub mod answer;
 
 ghost use mathlib.Core.Path.{_≡_};
-ghost use Rattle.command.specs.Commands.{commandOf};
+ghost use Rattle.command.specs.Commands.{commandOf, commandFor};
+use board::Part;
 
 pub enum Command {
     Nop,
@@ -35,5 +36,23 @@ pub fn command_of(byte: u8) -> Command
         0x8F => Command::Ind(7, true),
         0x90..=0x91 => Command::Nop,
         _ => Command::NotListed,
+    }
+}
+
+// A TS9347 runs no KRL.
+pub fn command_for(part: Part, byte: u8) -> Command
+    ensures { λ r. ⌜ r ≡ commandFor part byte ⌝ }
+{
+    let command = command_of(byte);
+    match command {
+        Command::Krl(_, _) => match part {
+            Part::Ef9345 => command,
+            Part::Ts9347 => Command::NotListed,
+        },
+        Command::Nop => command,
+        Command::Ind(_, _) => command,
+        Command::Krf(_, _) => command,
+        Command::Oct(_, _, _) => command,
+        Command::NotListed => command,
     }
 }

@@ -1,5 +1,5 @@
--- A row of 80 columns without a cell that flashes looks the same in every phase. Its cells are found by ROR and the board, and their pixels by DOR, MAT, PAT
--- and the phase.
+-- A row of 80 columns without a cell that flashes looks the same in every phase. Its cells are found by ROR, DOR, the part and the board, and their pixels by
+-- DOR, MAT, PAT and the phase.
 -- Assumes nothing.
 use Prim.Native.Nat.{ℕ, _+_, _*_}
 use mathlib.Core.Path.{_≡_, refl, ap, ap₂, _∙_}
@@ -59,13 +59,15 @@ module _ (a b : Shown) (mat : a .mat ≡ b .mat) (pat : a .pat ≡ b .pat) (dor 
     unfolding pairLine pairFlashes
     pair-steady code e = ap₂ _++_ (line-steady (evenOf code) (or-neither (narrowFlashes (evenOf code)) _ e)) (line-steady (oddOf code) (or-none (narrowFlashes (evenOf code)) _ e))
 
-  pub eighty-steady : a .ror ≡ b .ror → a .blocks ≡ b .blocks → (m rom : List ℕ) (r : ℕ) → anyPairFlashes a m r ≡ false → eightyRow m rom a r ≡ eightyRow m rom b r
+  pub eighty-steady :
+      a .ror ≡ b .ror → a .part ≡ b .part → a .blocks ≡ b .blocks → (m rom : List ℕ) (r : ℕ)
+      → anyPairFlashes a m r ≡ false → eightyRow m rom a r ≡ eightyRow m rom b r
   unfolding eightyLines eightyLine
-  eighty-steady ror blocks m rom r none =
+  eighty-steady ror part blocks m rom r none =
       joined-same _ _ 10
       (λ n k.
       joined-same _ _ 40
       (λ x l.
       pair-steady rom n (getD (rowBuffer a m r) x [])
       (ap pairFlashes (table-at (codeAt a m r) 40 x [] l) ∙ any-not (λ x. pairFlashes (codeAt a m r x)) 40 x none l)))
-      ∙ rw (table-same (codeAt a m r) (codeAt b m r) 40 (λ x l. code-ignores a b ror blocks m r x))
+      ∙ rw (table-same (codeAt a m r) (codeAt b m r) 40 (λ x l. code-ignores a b ror dor part blocks m r x))

@@ -1,7 +1,7 @@
 // The ten bytes of each position of a row, worked out once for its ten lines.
 ghost use mathlib.Core.Path.{_≡_};
+ghost use Prim.Native.Nat.{_≤_};
 ghost use lib.ListN.{length};
-ghost use Rattle.shown.specs.Lengths.{romBytes};
 ghost use Rattle.eighty.specs.HowEighty.{pairTens, eightyTens};
 use narrow::pair::even;
 use narrow::pair::odd;
@@ -20,7 +20,7 @@ fn put_ten(part: &mut [u8], ten: [u8; 10])
 
 // The bytes of a column's two positions.
 fn put_pair(part: &mut [u8], rom: &[u8], shown: Shown, code: [u8; 3])
-    requires { ⌜ (length (now part) ≡ 20) × (length (now rom) ≡ romBytes) ⌝ }
+    requires { ⌜ (length (now part) ≡ 20) × (1280 ≤ length (now rom)) ⌝ }
     ensures { λ _. ⌜ now (part .exit) ≡ pairTens (now (rom .entry)) shown code ⌝ }
 {
     put_ten(&mut part[0..10], ten_of(rom, shown, even(code)));
@@ -28,7 +28,7 @@ fn put_pair(part: &mut [u8], rom: &[u8], shown: Shown, code: [u8; 3])
 }
 
 pub fn tens_of(rom: &[u8], shown: Shown, cells: [[u8; 3]; 40]) -> [u8; 800]
-    requires { ⌜ length (now rom) ≡ romBytes ⌝ }
+    requires { ⌜ 1280 ≤ length (now rom) ⌝ }
     ensures { λ r. ⌜ r ≡ eightyTens (now (rom .entry)) shown cells ⌝ }
 {
     let mut tens = [0u8; 800];

@@ -16,7 +16,9 @@ use Rattle.basics.proofs.Choice.{eq-or-ne}
 use Rattle.basics.proofs.Below.{any-not, any-never, any-same}
 use Rattle.basics.proofs.Parts.{table-at, table-same}
 use Rattle.basics.proofs.Filled.{table-front}
-use Rattle.address.specs.Boards.{bytesOf}
+use Rattle.board.specs.Boards.{bytesOf}
+use Rattle.board.specs.declared.Part.{Part}
+use Rattle.board.specs.declared.Part.the-variants.{Ef9345, Ts9347}
 use Rattle.address.specs.Places.{blockOf}
 use Rattle.address.specs.Rows.{rowY}
 use Rattle.address.proofs.Laws.{facts-page, row-facts}
@@ -79,6 +81,12 @@ none-right cells single-wide = table-same _ _ 40 (λ x l. sym (single x l))
         (λ n. sym (half-next isWide (λ i. getD cells i []) x (omega (arith, n))) ∙ rw (single-wide x l))
         (eq-or-ne x 0)
 
+-- a cell whose B is 0 is of single height
+zero-single : (part : Part) (code : List ℕ) → getD code 1 0 ≡ 0 → isTall part code ≡ false
+unfolding isTall
+zero-single Ef9345 code e = rw e
+zero-single Ts9347 code e = rw e
+
 module _ (shown : Shown) (m : List ℕ) (whole : length m ≡ bytesOf (shown .blocks)) where
   pub right-none :
       (r z y yor : ℕ) (cells : List (List ℕ)) → cells ≡ rowBuffer shown m r → z ≡ firstBlock shown → y ≡ rowY yor r → yor ≡ yorOf shown
@@ -97,9 +105,8 @@ module _ (shown : Shown) (m : List ℕ) (whole : length m ≡ bytesOf (shown .bl
         rw (code-kept shown m whole r x l)
         (bare-byte m (firstBlock shown) y x 1 (facts-page x y l (row-facts (yorOf shown) r)) (bare-block shown m whole 1 bare))
 
-    never-tall : (r x : ℕ) → x < 40 → isTall (codeAt shown m r x) ≡ false
-    unfolding isTall
-    never-tall r x l = rw (second-zero r x l)
+    never-tall : (r x : ℕ) → x < 40 → isTall (shown .part) (codeAt shown m r x) ≡ false
+    never-tall r x l = zero-single (shown .part) (codeAt shown m r x) (second-zero r x l)
 
     never-wide : (r x : ℕ) → x < 40 → isWide (codeAt shown m r x) ≡ false
     unfolding isWide
@@ -125,7 +132,7 @@ module _ (shown : Shown) (m : List ℕ) (whole : length m ≡ bytesOf (shown .bl
 -- the three ways of a row's lower halves
 module _ (shown : Shown) (m : List ℕ) (r : ℕ) where
   pub lower-service : r ≡ 0 → table (λ x. false) 40 ≡ lowerHalves shown m r
-  lower-service e = table-same _ _ 40 (λ x l. rw e (sym (first-half isTall _)))
+  lower-service e = table-same _ _ 40 (λ x l. rw e (sym (first-half (isTall (shown .part)) _)))
 
   module _ (pos : 0 < r) where
     pub lower-next : (halves : List Bool) → halves ≡ lowerHalves shown m (r - 1) → table (nextLowerAt shown m r halves) 40 ≡ lowerHalves shown m r
@@ -133,25 +140,25 @@ module _ (shown : Shown) (m : List ℕ) (r : ℕ) where
         table-same _ _ 40
         (λ x l.
         ap (λ (b : Bool). goesOnAt shown m r x && not b) (ap (λ (h : List Bool). getD h x false) e ∙ table-at (lowerHalf shown m (r - 1)) 40 x false l)
-        ∙ half-next isTall (λ i. codeAt shown m i x) r pos)
+        ∙ half-next (isTall (shown .part)) (λ i. codeAt shown m i x) r pos)
 
     pub lower-none : anyBelow (goesOnAt shown m r) 40 ≡ false → table (λ x. false) 40 ≡ lowerHalves shown m r
     lower-none e =
         table-same _ _ 40
         (λ x l.
         ap (λ (a : Bool). a && not (lowerHalf shown m (r - 1) x)) (sym (any-not (goesOnAt shown m r) 40 x e l))
-        ∙ half-next isTall (λ i. codeAt shown m i x) r pos)
+        ∙ half-next (isTall (shown .part)) (λ i. codeAt shown m i x) r pos)
 
 -- the cells of a row and of the row above it, by the block and the Ys that the code has
 module _
     (shown : Shown) (m : List ℕ) (whole : length m ≡ bytesOf (shown .blocks))
     (r z y u yor : ℕ) (ez : z ≡ firstBlock shown) (ey : y ≡ rowY yor r) (eu : u ≡ rowY yor (r - 1)) (eo : yor ≡ yorOf shown)
   where
-    on-row : (x : ℕ) → x < 40 → goesOnIn m z y u x ≡ goesOnAt shown m r x
+    on-row : (x : ℕ) → x < 40 → goesOnIn (shown .part) m z y u x ≡ goesOnAt shown m r x
     on-row x l = rw (ez, ey, eu, eo, code-kept shown m whole r x l, code-kept shown m whole (r - 1) x l)
 
-    pub on-rows : anyBelow (goesOnIn m z y u) 40 ≡ anyBelow (goesOnAt shown m r) 40
+    pub on-rows : anyBelow (goesOnIn (shown .part) m z y u) 40 ≡ anyBelow (goesOnAt shown m r) 40
     on-rows = any-same _ _ 40 on-row
 
-    pub lower-rows : (lowers : List Bool) → table (nextLowerIn m z y u lowers) 40 ≡ table (nextLowerAt shown m r lowers) 40
+    pub lower-rows : (lowers : List Bool) → table (nextLowerIn (shown .part) m z y u lowers) 40 ≡ table (nextLowerAt shown m r lowers) 40
     lower-rows lowers = table-same _ _ 40 (λ x l. ap (λ (t : Bool). t && not (getD lowers x false)) (on-row x l))

@@ -7,12 +7,13 @@ ghost use lib.ListN.{length, take, drop};
 ghost use Rattle.basics.specs.Below.{anyBelow};
 ghost use Rattle.basics.specs.Parts.{table};
 ghost use Rattle.basics.specs.Choice.{pick};
-ghost use Rattle.address.specs.Boards.{bytesOf};
+ghost use Rattle.board.specs.Boards.{bytesOf};
 ghost use Rattle.page.specs.Codes.{rowBuffer};
 ghost use Rattle.page.specs.Halves.{isWide, sameCode, goesOn, lowerHalves};
 ghost use Rattle.page.specs.HowCodes.{codeOf, isFitted, Has};
 ghost use Rattle.page.specs.HowHalves.{Compared, rightIn, goesOnAt, nextLowerIn, nextLowerAt, KnownAbove};
 use address::row::row_y;
+use board::Part;
 use page::code::is_fitted;
 use page::stretch::compared_by;
 use page::stretch::goes_on_at;
@@ -111,12 +112,15 @@ fn some_go_on(memory: &[u8], shown: Shown, row: u8) -> bool
     let z = shown.first_block();
     let y = row_y(shown.yor(), row);
     let above = row_y(shown.yor(), row - 1);
-    some_on(memory, z, third, y, above, 0, 32) | some_on(memory, z, third, y, above, 32, 8)
+    let part = shown.part;
+    some_on(part, memory, z, third, y, above, 0, 32)
+        | some_on(part, memory, z, third, y, above, 32, 8)
 }
 
 // The lower halves of a stretch, put behind those of the cells before it.
 fn next_in(
     mut next: [bool; 40],
+    part: Part,
     memory: &[u8],
     z: u8,
     third: u8,
@@ -126,14 +130,14 @@ fn next_in(
     n: u16,
     lowers: [bool; 40],
 ) -> [bool; 40]
-    requires { ⌜ Compared (now memory) z third × (y < 32) × (above < 32) × (first + n ≤ 40) × (first % 32 + n ≤ 32) × (take first next ≡ table (nextLowerIn (now memory) z y above lowers) first) ⌝ }
-    ensures { λ r. ⌜ r ≡ table (nextLowerIn (now (memory .entry)) z y above lowers) (first + n) ++ drop (1 * (first + n)) next ⌝ }
+    requires { ⌜ Compared (now memory) z third × (y < 32) × (above < 32) × (first + n ≤ 40) × (first % 32 + n ≤ 32) × (take first next ≡ table (nextLowerIn part (now memory) z y above lowers) first) ⌝ }
+    ensures { λ r. ⌜ r ≡ table (nextLowerIn part (now (memory .entry)) z y above lowers) (first + n) ++ drop (1 * (first + n)) next ⌝ }
 {
     let here = compared_by(z, y, first, third);
     let over = compared_by(z, above, first, third);
     for i in 0..n {
         let x = (first + i) as usize;
-        let on = goes_on_at(memory, here, over, i as usize);
+        let on = goes_on_at(part, memory, here, over, i as usize);
         let lower = lowers[x];
         next[x] = on & !lower;
     }
@@ -152,8 +156,9 @@ fn next_lowers(memory: &[u8], shown: Shown, row: u8, lowers: [bool; 40]) -> [boo
     let z = shown.first_block();
     let y = row_y(shown.yor(), row);
     let above = row_y(shown.yor(), row - 1);
-    let left = next_in([false; 40], memory, z, third, y, above, 0, 32, lowers);
-    next_in(left, memory, z, third, y, above, 32, 8, lowers)
+    let part = shown.part;
+    let left = next_in([false; 40], part, memory, z, third, y, above, 0, 32, lowers);
+    next_in(left, part, memory, z, third, y, above, 32, 8, lowers)
 }
 
 // The lower halves of a row: each asked of the row above, the row number falling to the service row. Where no cell goes on from

@@ -17,7 +17,8 @@ use Rattle.basics.proofs.Parts.{table-at}
 use Rattle.address.specs.Places.{placeAt}
 use Rattle.address.specs.declared.triple.Triple.{Triple}
 use Rattle.shown.specs.declared.Shown.{Shown}
-use Rattle.address.specs.Boards.{bytesOf}
+use Rattle.board.specs.Boards.{bytesOf}
+use Rattle.board.specs.declared.Part.{Part}
 use Rattle.shown.specs.Lengths.{romBytes, rowBytes, pictureBytes}
 use Rattle.shown.specs.Modes.{isEighty, columnBytes}
 use Rattle.shown.specs.Refusals.{refused7}
@@ -69,32 +70,32 @@ module _ (rom picture : List ℕ) where
       (b .0, b .1 ∙ sym (store-keeps shown (k .memory) (placeAt t) v (p .marks) (b .0) r l e rom))
 
   -- IND: an equal value leaves the register, MAT is not looked at in 40 columns, and any other change marks every row
-  module _ (i : List ℕ) (phase blocks : ℕ) (marks : List Bool) (m : List ℕ) (f : FreshOn (shownBy i phase blocks) marks m rom picture) where
-    equal-fresh : (r v : ℕ) → getD i r 0 ≡ v → FreshOn (shownBy (set i r v) phase blocks) marks m rom picture
+  module _ (i : List ℕ) (phase blocks : ℕ) (part : Part) (marks : List Bool) (m : List ℕ) (f : FreshOn (shownBy i phase blocks part) marks m rom picture) where
+    equal-fresh : (r v : ℕ) → getD i r 0 ≡ v → FreshOn (shownBy (set i r v) phase blocks part) marks m rom picture
     equal-fresh r v e =
-        subst (λ (j : List ℕ). FreshOn (shownBy j phase blocks) marks m rom picture) (sym (ap (set i r) (sym e) ∙ set-getD i r 0)) f
+        subst (λ (j : List ℕ). FreshOn (shownBy j phase blocks part) marks m rom picture) (sym (ap (set i r) (sym e) ∙ set-getD i r 0)) f
 
-    mat-fresh : (v : ℕ) → isEighty (shownBy i phase blocks) ≡ false → FreshOn (shownBy (set i 2 v) phase blocks) marks m rom picture
+    mat-fresh : (v : ℕ) → isEighty (shownBy i phase blocks part) ≡ false → FreshOn (shownBy (set i 2 v) phase blocks part) marks m rom picture
     mat-fresh v forty s l e =
-        let old = shownBy i phase blocks in
-        let new = shownBy (set i 2 v) phase blocks in
+        let old = shownBy i phase blocks part in
+        let new = shownBy (set i 2 v) phase blocks part in
         let tgs = getD-set-other i 2 1 v 0 (λ q. omega arith) in
         let pat = getD-set-other i 2 3 v 0 (λ q. omega arith) in
         let dor = getD-set-other i 2 4 v 0 (λ q. omega arith) in
         let ror = getD-set-other i 2 7 v 0 (λ q. omega arith) in (
-          can-draw-same new old tgs pat ror ∙ f s l e .0,
-          ap (λ (k : ℕ). partOf (rowBytes k) picture s) (bytes-same new old tgs)
+          can-draw-same new old tgs refl pat ror ∙ f s l e .0,
+          ap (λ (k : ℕ). partOf (rowBytes k) picture s) (bytes-same new old tgs refl)
               ∙ f s l e .1
-              ∙ row-ignores old new (sym tgs) (sym pat) (sym dor) (sym ror) refl m rom s forty refl,
+              ∙ row-ignores old new (sym tgs) (sym pat) (sym dor) (sym ror) refl refl m rom s forty refl,
         )
 
     same-or-mat :
-        (r v : ℕ) → (not (eqb (getD i r 0) v) && (not (eqb r 2) || isEighty (shownBy i phase blocks))) ≡ false →
-        FreshOn (shownBy (set i r v) phase blocks) marks m rom picture
+        (r v : ℕ) → (not (eqb (getD i r 0) v) && (not (eqb r 2) || isEighty (shownBy i phase blocks part))) ≡ false →
+        FreshOn (shownBy (set i r v) phase blocks part) marks m rom picture
     same-or-mat r v e =
         ⊎-elim (λ t. equal-fresh r v (eqb-true _ _ t))
-        (λ t. subst (λ (j : ℕ). FreshOn (shownBy (set i j v) phase blocks) marks m rom picture) (sym (eqb-true r 2 (t .0))) (mat-fresh v (t .1)))
-        (unmarked-change (eqb (getD i r 0) v) (eqb r 2) (isEighty (shownBy i phase blocks)) e)
+        (λ t. subst (λ (j : ℕ). FreshOn (shownBy (set i j v) phase blocks part) marks m rom picture) (sym (eqb-true r 2 (t .0))) (mat-fresh v (t .1)))
+        (unmarked-change (eqb (getD i r 0) v) (eqb r 2) (isEighty (shownBy i phase blocks part)) e)
 
   marked-fresh : (shown : Shown) (m : List ℕ) → FreshOn shown allMarked m rom picture
   marked-fresh shown m s l e = absurd (false≢true (sym e ∙ all-marked s l))
@@ -103,11 +104,11 @@ module _ (rom picture : List ℕ) where
   unfolding indirectWritten
   indirect-fresh r k f =
       let p = k .processor in
-      let new = shownBy (set (p .indirect) r (registerOf p 1)) (p .phase) (p .blocks) in
+      let new = shownBy (set (p .indirect) r (registerOf p 1)) (p .phase) (p .blocks) (p .part) in
       pick-known (λ (marks : List Bool). FreshOn new marks (k .memory) rom picture)
       (not (eqb (getD (p .indirect) r 0) (registerOf p 1)) && (not (eqb r 2) || isEighty (shownOf p))) allMarked (p .marks)
       (λ e. marked-fresh new (k .memory))
-      (λ e. same-or-mat (p .indirect) (p .phase) (p .blocks) (p .marks) (k .memory) f r (registerOf p 1) e)
+      (λ e. same-or-mat (p .indirect) (p .phase) (p .blocks) (p .part) (p .marks) (k .memory) f r (registerOf p 1) e)
 
   -- no other register is looked at, and no LX bit
   fresh-kept : KeptBy noneBarred FreshChip
@@ -124,14 +125,14 @@ module _ (rom picture : List ℕ) where
   phased-fresh n k f =
       let p = k .processor in
       let shown = shownOf p in
-      let turned = shownBy (p .indirect) n (p .blocks) in
+      let turned = shownBy (p .indirect) n (p .blocks) (p .part) in
       pick-known FreshChip (eqb (p .phase) n) k _ (λ e. f)
       (λ e r l u.
       let b = f r l (phase-before shown (k .memory) (p .marks) r l u) in (
-        can-draw-same turned shown refl refl refl ∙ b .0,
-        ap (λ (k : ℕ). partOf (rowBytes k) picture r) (bytes-same turned shown refl)
+        can-draw-same turned shown refl refl refl refl ∙ b .0,
+        ap (λ (k : ℕ). partOf (rowBytes k) picture r) (bytes-same turned shown refl refl)
             ∙ b .1
-            ∙ phase-keeps shown (k .memory) (p .marks) r l turned refl refl refl refl refl refl (b .0) u rom,
+            ∙ phase-keeps shown (k .memory) (p .marks) r l turned refl refl refl refl refl refl refl (b .0) u rom,
       ))
 
 -- the draw, of a picture whose unmarked rows are fresh: an accepted one leaves the fresh picture
@@ -195,13 +196,16 @@ module _ (x y z : Lent) (w : World) where
   abbrev memoryBytes : ℕ
   memoryBytes = bytesOf (w .processor .blocks)
 
+  abbrev asksRom : ℕ
+  asksRom = romBytes (w .processor .part)
+
   wrong-memory : length m ≢ memoryBytes → Refused
   wrong-memory n = rw (ne-eqb (length m) memoryBytes n) (λ e. absurd (omega arith))
 
-  wrong-rom : length rom ≢ romBytes → Refused
+  wrong-rom : length rom ≢ asksRom → Refused
   wrong-rom n =
       pick-either (λ i. i ≢ 0) (not (eqb (length m) memoryBytes)) 1 _ (λ e. absurd (omega arith))
-      (rw (ne-eqb (length rom) romBytes n) (λ e. absurd (omega arith)))
+      (rw (ne-eqb (length rom) asksRom n) (λ e. absurd (omega arith)))
 
   abbrev asked : ℕ
   asked = pictureBytes (columnBytes (shownOf (w .processor)))
@@ -209,7 +213,7 @@ module _ (x y z : Lent) (w : World) where
   wrong-picture : length picture ≢ asked → Refused
   wrong-picture n =
       pick-either (λ i. i ≢ 0) (not (eqb (length m) memoryBytes)) 1 _ (λ e. absurd (omega arith))
-      (pick-either (λ i. i ≢ 0) (not (eqb (length rom) romBytes)) 5 _ (λ e. absurd (omega arith))
+      (pick-either (λ i. i ≢ 0) (not (eqb (length rom) asksRom)) 5 _ (λ e. absurd (omega arith))
       (pick-either (λ i. i ≢ 0) (refused7 (shownOf (w .processor))) 7 _ (λ e. absurd (omega arith))
       (rw (ne-eqb (length picture) asked n) (λ e. absurd (omega arith)))))
 
@@ -241,16 +245,17 @@ step-keeps (turn own n) w g f =
 step-keeps (turn (other b) n) w g f = same-fresh w _ (wrong-access (turn (other b) n) w (first-is-1 b _ _ g)) f
 step-keeps (draw x y z) w g f = draw-keeps x y z w g f
 
-first-fresh : (blocks : ℕ) (m rom picture : List ℕ) → FreshIn (first blocks m rom picture)
+first-fresh : (part : Part) (blocks : ℕ) (m rom picture : List ℕ) → FreshIn (first part blocks m rom picture)
 unfolding poweredUp
-first-fresh blocks m rom picture = marked-fresh rom picture (shownOf (poweredUp blocks)) m
+first-fresh part blocks m rom picture = marked-fresh rom picture (shownOf (poweredUp part blocks)) m
 
 -- each unmarked row is fresh, and there is one only while a draw would get neither 7 nor 8
 pub always-fresh :
-    (blocks : ℕ) (m rom picture : List ℕ) (os : List Operation) → FairRun os (first blocks m rom picture) → FreshIn (run os (first blocks m rom picture))
-always-fresh blocks m rom picture os g =
-    run-known (λ os u. FairRun os u × FreshIn u) (λ o os u h. (h .0 .1, step-keeps o u (h .0 .0) (h .1))) os (first blocks m rom picture)
-    (g, first-fresh blocks m rom picture) .1
+    (part : Part) (blocks : ℕ) (m rom picture : List ℕ) (os : List Operation) → FairRun os (first part blocks m rom picture) →
+    FreshIn (run os (first part blocks m rom picture))
+always-fresh part blocks m rom picture os g =
+    run-known (λ os u. FairRun os u × FreshIn u) (λ o os u h. (h .0 .1, step-keeps o u (h .0 .0) (h .1))) os (first part blocks m rom picture)
+    (g, first-fresh part blocks m rom picture) .1
 
 -- a draw that is accepted leaves the picture drawn afresh
 draw-accepted :
@@ -266,5 +271,5 @@ draw-accepted own own (other b) w g f e =
     (g .2)
 
 pub draw-fresh : DrawFresh
-draw-fresh blocks m rom picture os x y z fair g e =
-    draw-accepted x y z (run os (first blocks m rom picture)) g (always-fresh blocks m rom picture os fair) e
+draw-fresh part blocks m rom picture os x y z fair g e =
+    draw-accepted x y z (run os (first part blocks m rom picture)) g (always-fresh part blocks m rom picture os fair) e

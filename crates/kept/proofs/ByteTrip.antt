@@ -8,15 +8,17 @@ use native.Mathlib.Omega.{arith}
 use lib.ListN.{length, getD, set}
 use Rattle.basics.specs.Choice.{pick}
 use Rattle.address.specs.Addresses.{byteAddresses, allFitted}
+use Rattle.board.specs.declared.Part.{Part}
 use Rattle.address.specs.Pointers.{mainPointer, auxiliaryPointer}
 use Rattle.address.specs.declared.triple.Triple.{Triple}
 use Rattle.command.specs.declared.Command.the-variants.{Oct}
 use Rattle.command.specs.Commands.{commandOf}
+use Rattle.command.proofs.Listed.{named, lists-oct}
 use Rattle.processor.specs.Sizes.{Sized}
 use Rattle.kept.specs.Demands.{octCode, ByteRoundTrip}
 use Rattle.kept.specs.Quiet.{Quiet}
 use Rattle.kept.specs.Runs.{Operation, World, first, step, run}
-use Rattle.kept.proofs.Boards.{Whole, board-stays, run-whole, power-up-whole, power-up-blocks}
+use Rattle.kept.proofs.Boards.{Whole, run-whole, power-up-whole, run-power-up}
 use Rattle.kept.proofs.Pointed.{pointIn, Uses, Journey, trip, meant, same-pointer, stored-now, read-now, quiet-back, round-trip}
 use Rattle.kept.proofs.Programs.{eight, Put, to, putInto, Holds}
 use Rattle.kept.proofs.RoundTrip.{byte-kept-in}
@@ -34,10 +36,11 @@ oct-code false true false = refl
 oct-code false false true = refl
 oct-code false false false = refl
 
-oct-uses : (reads auxiliary increments : Bool) → Uses auxiliary byteAddresses (octCode reads auxiliary increments) (Oct reads auxiliary increments)
-oct-uses reads auxiliary increments = record { is = oct-code reads auxiliary increments; listed = refl; at = λ p. refl }
+oct-uses : (part : Part) (reads auxiliary increments : Bool) → Uses part auxiliary byteAddresses (octCode reads auxiliary increments) (Oct reads auxiliary increments)
+oct-uses part reads auxiliary increments =
+    record { is = named part _ _ (oct-code reads auxiliary increments) (lists-oct part reads auxiliary increments); listed = refl; at = λ p. refl }
 
-module _ (r4 r5 r6 r7 v : ℕ) (x : Bool) where
+module _ (part : Part) (r4 r5 r6 r7 v : ℕ) (x : Bool) where
   abbrev pointers : List Put
   pointers = to 4 r4 ∷ to 5 r5 ∷ to 6 r6 ∷ to 7 r7 ∷ []
 
@@ -45,7 +48,7 @@ module _ (r4 r5 r6 r7 v : ℕ) (x : Bool) where
   loaded = pointers ++ to 1 v ∷ []
 
   abbrev meaning : Triple
-  meaning = pick x (auxiliaryPointer r4 r5 r6) (mainPointer r6 r7)
+  meaning = pick x (auxiliaryPointer part r4 r5 r6) (mainPointer part r6 r7)
 
   -- what R1 holds
   abbrev Loads : List ℕ → Type 0
@@ -53,9 +56,10 @@ module _ (r4 r5 r6 r7 v : ℕ) (x : Bool) where
 
   -- the trip from a world w
   module _
-      (i j : Bool) (w : World) (g : allFitted (byteAddresses (w .processor .blocks) meaning) ≡ true) (long : Whole w) (s : Sized (w .processor)) (between : List Operation)
+      (i j : Bool) (w : World) (o : w .processor .part ≡ part) (g : allFitted (byteAddresses (w .processor .blocks) meaning) ≡ true) (long : Whole w)
+      (s : Sized (w .processor)) (between : List Operation)
     where
-      abbrev journey : Journey x byteAddresses meaning Loads (Oct false x i) (Oct true x j)
+      abbrev journey : Journey part x byteAddresses meaning Loads (Oct false x i) (Oct true x j)
       journey =
           record {
             pointers = pointers;
@@ -63,16 +67,17 @@ module _ (r4 r5 r6 r7 v : ℕ) (x : Bool) where
             named = (omega arith, (omega arith, (omega arith, (omega arith, tt))));
             all-named = (omega arith, (omega arith, (omega arith, (omega arith, (omega arith, tt)))));
             silent = λ w. (refl, (refl, (refl, (refl, tt))));
-            points = λ code. eight (λ l. pointIn x (set (putInto pointers l) 0 code) ≡ meaning) (λ a b c d e f g h. refl);
+            points = λ code. eight (λ l. pointIn part x (set (putInto pointers l) 0 code) ≡ meaning) (λ a b c d e f g h. refl);
             means =
                 λ code.
-                eight (λ l. (pointIn x (set (putInto loaded l) 0 code) ≡ meaning) × Loads (set (putInto loaded l) 0 code))
+                eight (λ l. (pointIn part x (set (putInto loaded l) 0 code) ≡ meaning) × Loads (set (putInto loaded l) 0 code))
                 (λ a b c d e f g h. (refl, refl));
             store = octCode false x i;
             load = octCode true x j;
-            stores = oct-uses false x i;
-            loads = oct-uses true x j;
+            stores = oct-uses part false x i;
+            loads = oct-uses part true x j;
             from = w;
+            of = o;
             ok = g;
             whole = long;
             sized = s;
@@ -80,21 +85,22 @@ module _ (r4 r5 r6 r7 v : ℕ) (x : Bool) where
           }
 
       abbrev t : Trip
-      t = trip _ _ _ _ _ _ journey
+      t = trip _ _ _ _ _ _ _ journey
 
       holds : Quiet between (step (storing t) (t .ready)) → Holds (to 1 v ∷ []) (end t .processor)
       holds quiet =
           let kept =
-          byte-kept-in (t .ready) (t .sized) (storing t) (back t) (reading t) x x i j refl (stored-now _ _ _ _ _ _ journey)
-          (quiet-back _ _ _ _ _ _ journey quiet) refl (read-now _ _ _ _ _ _ journey) (same-pointer _ _ _ _ _ _ journey) in
-          ((omega arith, omega arith, kept ∙ meant _ _ _ _ _ _ journey), tt)
+          byte-kept-in (t .ready) (t .sized) (storing t) (back t) (reading t) x x i j refl (stored-now _ _ _ _ _ _ _ journey)
+          (quiet-back _ _ _ _ _ _ _ journey quiet) refl (read-now _ _ _ _ _ _ _ journey) (same-pointer _ _ _ _ _ _ _ journey) in
+          ((omega arith, omega arith, kept ∙ meant _ _ _ _ _ _ _ journey), tt)
 
 pub byte-round-trip : ByteRoundTrip
-byte-round-trip blocks m rom picture before between r4 r5 r6 r7 v x i j e g quiet =
-    let w = first blocks m rom picture in
+byte-round-trip part blocks m rom picture before between r4 r5 r6 r7 v x i j e g quiet =
+    let w = first part blocks m rom picture in
     let u = run before w in
-    let whole = run-whole before w (power-up-whole blocks m e) in
-    let sized = run-sized before w (power-up-sized blocks) in
-    let board = board-stays before w ∙ power-up-blocks blocks in
-    let fits = ap (λ (n : ℕ). allFitted (byteAddresses n (pick x (auxiliaryPointer r4 r5 r6) (mainPointer r6 r7)))) board ∙ g in
-    round-trip _ _ _ _ _ _ (journey r4 r5 r6 r7 v x i j u fits whole sized between) (to 1 v ∷ []) (holds r4 r5 r6 r7 v x i j u fits whole sized between quiet)
+    let whole = run-whole before w (power-up-whole part blocks m e) in
+    let sized = run-sized before w (power-up-sized part blocks) in
+    let board = run-power-up part blocks before m rom picture in
+    let fits = ap (λ (n : ℕ). allFitted (byteAddresses n (pick x (auxiliaryPointer part r4 r5 r6) (mainPointer part r6 r7)))) (board .1) ∙ g in
+    round-trip _ _ _ _ _ _ _ (journey part r4 r5 r6 r7 v x i j u (board .0) fits whole sized between) (to 1 v ∷ [])
+    (holds part r4 r5 r6 r7 v x i j u (board .0) fits whole sized between quiet)

@@ -7,15 +7,17 @@ use mathlib.Core.List.{List, [], _∷_, _++_}
 use native.Mathlib.Omega.{arith}
 use lib.ListN.{length, getD, set}
 use Rattle.address.specs.Addresses.{codeAddresses, allFitted}
+use Rattle.board.specs.declared.Part.{Part}
 use Rattle.address.specs.Pointers.{mainPointer}
 use Rattle.command.specs.declared.Command.the-variants.{Krf}
 use Rattle.command.specs.Commands.{commandOf}
+use Rattle.command.proofs.Listed.{named, lists-krf}
 use Rattle.processor.specs.States.{registerOf}
 use Rattle.processor.specs.Sizes.{Sized}
 use Rattle.kept.specs.Demands.{krfCode, codeReplies, CodeRoundTrip}
 use Rattle.kept.specs.Quiet.{Quiet}
 use Rattle.kept.specs.Runs.{Operation, World, first, step, run, Reply, reply}
-use Rattle.kept.proofs.Boards.{Whole, board-stays, run-whole, power-up-whole, power-up-blocks}
+use Rattle.kept.proofs.Boards.{Whole, run-whole, power-up-whole, run-power-up}
 use Rattle.kept.proofs.Pointed.{pointIn, Uses, Journey, trip, meant, same-pointer, stored-now, read-now, quiet-back, round-trip}
 use Rattle.kept.proofs.Programs.{eight, Put, to, putInto, answers, Holds}
 use Rattle.kept.proofs.RoundTrip.{code-kept-in}
@@ -29,8 +31,9 @@ krf-code true false = refl
 krf-code false true = refl
 krf-code false false = refl
 
-krf-uses : (reads increments : Bool) → Uses false codeAddresses (krfCode reads increments) (Krf reads increments)
-krf-uses reads increments = record { is = krf-code reads increments; listed = refl; at = λ p. refl }
+krf-uses : (part : Part) (reads increments : Bool) → Uses part false codeAddresses (krfCode reads increments) (Krf reads increments)
+krf-uses part reads increments =
+    record { is = named part _ _ (krf-code reads increments) (lists-krf part reads increments); listed = refl; at = λ p. refl }
 
 abbrev values : ℕ → ℕ → ℕ → List Put
 values c b a = to 1 c ∷ to 2 b ∷ to 3 a ∷ []
@@ -38,7 +41,7 @@ values c b a = to 1 c ∷ to 2 b ∷ to 3 a ∷ []
 answered : (c b a : ℕ) → answers (values c b a) ≡ codeReplies c b a
 answered c b a = refl
 
-module _ (r6 r7 c b a : ℕ) where
+module _ (part : Part) (r6 r7 c b a : ℕ) where
   abbrev pointer : List Put
   pointer = to 6 r6 ∷ to 7 r7 ∷ []
 
@@ -51,9 +54,9 @@ module _ (r6 r7 c b a : ℕ) where
 
   -- the trip from a world w
   module _
-      (i j : Bool) (w : World) (g : allFitted (codeAddresses (w .processor .blocks) (mainPointer r6 r7)) ≡ true) (long : Whole w) (s : Sized (w .processor))
-      (between : List Operation) where
-    abbrev journey : Journey false codeAddresses (mainPointer r6 r7) Codes (Krf false i) (Krf true j)
+      (i j : Bool) (w : World) (o : w .processor .part ≡ part) (g : allFitted (codeAddresses (w .processor .blocks) (mainPointer part r6 r7)) ≡ true)
+      (long : Whole w) (s : Sized (w .processor)) (between : List Operation) where
+    abbrev journey : Journey part false codeAddresses (mainPointer part r6 r7) Codes (Krf false i) (Krf true j)
     journey =
         record {
           pointers = pointer;
@@ -61,16 +64,17 @@ module _ (r6 r7 c b a : ℕ) where
           named = (omega arith, (omega arith, tt));
           all-named = (omega arith, (omega arith, (omega arith, (omega arith, (omega arith, tt)))));
           silent = λ w. (refl, (refl, tt));
-          points = λ code. eight (λ l. pointIn false (set (putInto pointer l) 0 code) ≡ mainPointer r6 r7) (λ a b c d e f g h. refl);
+          points = λ code. eight (λ l. pointIn part false (set (putInto pointer l) 0 code) ≡ mainPointer part r6 r7) (λ a b c d e f g h. refl);
           means =
               λ code.
-              eight (λ l. (pointIn false (set (putInto coded l) 0 code) ≡ mainPointer r6 r7) × Codes (set (putInto coded l) 0 code))
+              eight (λ l. (pointIn part false (set (putInto coded l) 0 code) ≡ mainPointer part r6 r7) × Codes (set (putInto coded l) 0 code))
               (λ a b c d e f g h. (refl, (refl, refl, refl)));
           store = krfCode false i;
           load = krfCode true j;
-          stores = krf-uses false i;
-          loads = krf-uses true j;
+          stores = krf-uses part false i;
+          loads = krf-uses part true j;
           from = w;
+          of = o;
           ok = g;
           whole = long;
           sized = s;
@@ -78,18 +82,18 @@ module _ (r6 r7 c b a : ℕ) where
         }
 
     abbrev t : Trip
-    t = trip _ _ _ _ _ _ journey
+    t = trip _ _ _ _ _ _ _ journey
 
     kept :
         Quiet between (step (storing t) (t .ready)) → (n : ℕ) → 1 ≤ n → n ≤ 3 →
         registerOf (end t .processor) n ≡ getD (set (t .ready .processor .registers) 0 (krfCode false i)) n 0
     kept quiet n l h =
-        code-kept-in (t .ready) (t .sized) (storing t) (back t) (reading t) i j refl (stored-now _ _ _ _ _ _ journey) (quiet-back _ _ _ _ _ _ journey quiet) refl
-        (read-now _ _ _ _ _ _ journey) (same-pointer _ _ _ _ _ _ journey) n l h
+        code-kept-in (t .ready) (t .sized) (storing t) (back t) (reading t) i j refl (stored-now _ _ _ _ _ _ _ journey) (quiet-back _ _ _ _ _ _ _ journey quiet) refl
+        (read-now _ _ _ _ _ _ _ journey) (same-pointer _ _ _ _ _ _ _ journey) n l h
 
     holds : Quiet between (step (storing t) (t .ready)) → Holds (values c b a) (end t .processor)
     holds quiet =
-        let m = meant _ _ _ _ _ _ journey in (
+        let m = meant _ _ _ _ _ _ _ journey in (
           (omega arith, omega arith, kept quiet 1 (omega arith) (omega arith) ∙ m .0),
           (
             (omega arith, omega arith, kept quiet 2 (omega arith) (omega arith) ∙ m .1),
@@ -98,12 +102,13 @@ module _ (r6 r7 c b a : ℕ) where
         )
 
 pub code-round-trip : CodeRoundTrip
-code-round-trip blocks m rom picture before between r6 r7 c b a i j e g quiet =
-    let w = first blocks m rom picture in
+code-round-trip part blocks m rom picture before between r6 r7 c b a i j e g quiet =
+    let w = first part blocks m rom picture in
     let u = run before w in
-    let whole = run-whole before w (power-up-whole blocks m e) in
-    let sized = run-sized before w (power-up-sized blocks) in
-    let board = board-stays before w ∙ power-up-blocks blocks in
-    let fits = ap (λ (n : ℕ). allFitted (codeAddresses n (mainPointer r6 r7))) board ∙ g in
-    round-trip _ _ _ _ _ _ (journey r6 r7 c b a i j u fits whole sized between) (values c b a) (holds r6 r7 c b a i j u fits whole sized between quiet)
+    let whole = run-whole before w (power-up-whole part blocks m e) in
+    let sized = run-sized before w (power-up-sized part blocks) in
+    let board = run-power-up part blocks before m rom picture in
+    let fits = ap (λ (n : ℕ). allFitted (codeAddresses n (mainPointer part r6 r7))) (board .1) ∙ g in
+    round-trip _ _ _ _ _ _ _ (journey part r6 r7 c b a i j u (board .0) fits whole sized between) (values c b a)
+    (holds part r6 r7 c b a i j u (board .0) fits whole sized between quiet)
     ∙ ap (λ (l : List Reply). reply 0 0 ∷ reply 0 0 ∷ reply 0 0 ∷ l) (answered c b a)

@@ -31,19 +31,19 @@ use Rattle.reading.proofs.Stable.{taken-same, Own, Sliced, Up, code-same, own-a
 use Rattle.kept.specs.Agreeing.{FrameLaw}
 
 module _ (shown : Shown) (m n : List ℕ) where
-  tall-hit : (r x : ℕ) → x < 40 → isTall (codeAt shown m r x) ≡ true → hasTall shown m r ≡ true
+  tall-hit : (r x : ℕ) → x < 40 → isTall (shown .part) (codeAt shown m r x) ≡ true → hasTall shown m r ≡ true
   unfolding hasTall
-  tall-hit r x l t = any-hit (λ x. isTall (codeAt shown m r x)) 40 x l t
+  tall-hit r x l t = any-hit (λ x. isTall (shown .part) (codeAt shown m r x)) 40 x l t
 
   lower-same : (x r : ℕ) → x < 40 → Own shown m n r → Up shown m n r → lowerHalf shown m r x ≡ lowerHalf shown n r x
   unfolding secondHalf
   lower-same x zero l own up = refl
-  lower-same x (suc k) l own up = go (isTall (codeAt shown m (suc k) x)) refl (λ o u. lower-same x k l o u)
+  lower-same x (suc k) l own up = go (isTall (shown .part) (codeAt shown m (suc k) x)) refl (λ o u. lower-same x k l o u)
     where
       go :
-          (t : Bool) → isTall (codeAt shown m (suc k) x) ≡ t → (Own shown m n k → Up shown m n k → lowerHalf shown m k x ≡ lowerHalf shown n k x)
-          → (goesOn (isTall (codeAt shown m (suc k) x)) (codeAt shown m (suc k) x) (codeAt shown m k x) && not (lowerHalf shown m k x))
-          ≡ (goesOn (isTall (codeAt shown n (suc k) x)) (codeAt shown n (suc k) x) (codeAt shown n k x) && not (lowerHalf shown n k x))
+          (t : Bool) → isTall (shown .part) (codeAt shown m (suc k) x) ≡ t → (Own shown m n k → Up shown m n k → lowerHalf shown m k x ≡ lowerHalf shown n k x)
+          → (goesOn (isTall (shown .part) (codeAt shown m (suc k) x)) (codeAt shown m (suc k) x) (codeAt shown m k x) && not (lowerHalf shown m k x))
+          ≡ (goesOn (isTall (shown .part) (codeAt shown n (suc k) x)) (codeAt shown n (suc k) x) (codeAt shown n k x) && not (lowerHalf shown n k x))
       go true d below =
           let t = tall-hit (suc k) x l d in
           rw (code-same shown m n (suc k) x own l, code-same shown m n k x (own-above shown m n k t up) l, below (own-above shown m n k t up) (up-above shown m n k t up))
@@ -75,7 +75,7 @@ module _ (shown : Shown) (m n : List ℕ) where
         ← code-same shown m n r x own l,
         ← lower-same x r l own up,
         ← right-same r x l own,
-        ← slices-taken (shown .blocks) (characterOf (decoded code)) (cellSource shown (decoded code)) (λ p h. sl p (slice-hit r x p l h)),
+        ← slices-taken (shown .blocks) (characterOf (decoded (shown .part) code)) (cellSource shown (decoded (shown .part) code)) (λ p h. sl p (slice-hit r x p l h)),
       )
 
 -- the frame law

@@ -19,7 +19,7 @@ use Rattle.processor.specs.declared.state.Processor.{Processor}
 use Rattle.processor.specs.States.{Chip, chip, registerOf, indirectWritten, withPhase, withRegister, cleared, shownOf}
 use Rattle.command.specs.declared.Command.{Command}
 use Rattle.command.specs.declared.Command.the-variants.{Nop, Ind, Krf, Oct, Krl, NotListed}
-use Rattle.command.specs.Commands.{commandOf}
+use Rattle.command.specs.Commands.{commandFor}
 use Rattle.processor.specs.Pointers.{pointerOf}
 use Rattle.address.specs.Places.{placeAt, loaded}
 use Rattle.processor.specs.Bytes.{stored, oct, codeStored, krf, narrowStored, krl}
@@ -125,10 +125,10 @@ oct-read-marks auxiliary increments k = effect-keeps isMarker _ (unmarked _) (Oc
 pub write-unmarked :
     (address v : ℕ) (k : Chip) →
     let p = withRegister (k .processor) (bits 0 3 address) v in
-    (isSet 3 address && isMarker (commandOf (registerOf p 0))) ≡ false → written address v k .left .processor .marks ≡ k .processor .marks
+    (isSet 3 address && isMarker (commandFor (p .part) (registerOf p 0))) ≡ false → written address v k .left .processor .marks ≡ k .processor .marks
 write-unmarked address v k n = write-keeps isMarker _ (unmarked (k .processor .marks)) address v k (and-none (isSet 3 address) _ n) refl
 
 pub read-unmarked :
-    (address : ℕ) (k : Chip) → (isSet 3 address && isMarker (commandOf (registerOf (k .processor) 0))) ≡ false →
+    (address : ℕ) (k : Chip) → (isSet 3 address && isMarker (commandFor (k .processor .part) (registerOf (k .processor) 0))) ≡ false →
     readOut address k .left .processor .marks ≡ k .processor .marks
 read-unmarked address k n = read-keeps isMarker _ (unmarked (k .processor .marks)) address k (and-none (isSet 3 address) _ n) refl

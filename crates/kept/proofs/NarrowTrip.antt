@@ -8,16 +8,18 @@ use native.Mathlib.Omega.{arith}
 use lib.ListN.{length, getD, set}
 use Rattle.address.specs.Addresses.{narrowAddresses, allFitted}
 use Rattle.address.specs.Narrow.{isOdd, nibbleFor, bothHalves}
+use Rattle.board.specs.declared.Part.the-variants.{Ef9345}
 use Rattle.address.specs.Pointers.{mainPointer}
 use Rattle.address.specs.declared.triple.Triple.{Triple}
 use Rattle.command.specs.declared.Command.the-variants.{Krl}
 use Rattle.command.specs.Commands.{commandOf}
+use Rattle.command.proofs.Listed.{named}
 use Rattle.processor.specs.States.{registerOf}
 use Rattle.processor.specs.Sizes.{Sized}
 use Rattle.kept.specs.Demands.{krlCode, narrowReplies, NarrowRoundTrip}
 use Rattle.kept.specs.Quiet.{Quiet}
 use Rattle.kept.specs.Runs.{Operation, World, first, step, run, registered, Reply, reply}
-use Rattle.kept.proofs.Boards.{Whole, board-stays, run-whole, power-up-whole, power-up-blocks}
+use Rattle.kept.proofs.Boards.{Whole, run-whole, power-up-whole, run-power-up}
 use Rattle.kept.proofs.Pointed.{pointIn, Uses, Journey, trip, meant, stored-at, same-pointer, stored-now, read-now, quiet-back, round-trip}
 use Rattle.kept.proofs.Programs.{eight, Put, to, putInto, answers, Holds}
 use Rattle.kept.proofs.RoundTrip.{narrow-kept-in}
@@ -31,8 +33,8 @@ krl-code true false = refl
 krl-code false true = refl
 krl-code false false = refl
 
-krl-uses : (reads increments : Bool) → Uses false narrowAddresses (krlCode reads increments) (Krl reads increments)
-krl-uses reads increments = record { is = krl-code reads increments; listed = refl; at = λ p. refl }
+krl-uses : (reads increments : Bool) → Uses Ef9345 false narrowAddresses (krlCode reads increments) (Krl reads increments)
+krl-uses reads increments = record { is = named Ef9345 _ _ (krl-code reads increments) refl; listed = refl; at = λ p. refl }
 
 -- what they hold at the end
 abbrev read : Triple → ℕ → ℕ → List Put
@@ -54,9 +56,9 @@ module _ (r6 r7 c a : ℕ) where
 
   -- the trip from a world w
   module _
-      (i j : Bool) (w : World) (g : allFitted (narrowAddresses (w .processor .blocks) (mainPointer r6 r7)) ≡ true) (long : Whole w) (s : Sized (w .processor))
-      (between : List Operation) where
-    abbrev journey : Journey false narrowAddresses (mainPointer r6 r7) Codes (Krl false i) (Krl true j)
+      (i j : Bool) (w : World) (o : w .processor .part ≡ Ef9345) (g : allFitted (narrowAddresses (w .processor .blocks) (mainPointer Ef9345 r6 r7)) ≡ true)
+      (long : Whole w) (s : Sized (w .processor)) (between : List Operation) where
+    abbrev journey : Journey Ef9345 false narrowAddresses (mainPointer Ef9345 r6 r7) Codes (Krl false i) (Krl true j)
     journey =
         record {
           pointers = pointer;
@@ -64,16 +66,17 @@ module _ (r6 r7 c a : ℕ) where
           named = (omega arith, (omega arith, tt));
           all-named = (omega arith, (omega arith, (omega arith, (omega arith, tt))));
           silent = λ w. (refl, (refl, tt));
-          points = λ code. eight (λ l. pointIn false (set (putInto pointer l) 0 code) ≡ mainPointer r6 r7) (λ a b c d e f g h. refl);
+          points = λ code. eight (λ l. pointIn Ef9345 false (set (putInto pointer l) 0 code) ≡ mainPointer Ef9345 r6 r7) (λ a b c d e f g h. refl);
           means =
               λ code.
-              eight (λ l. (pointIn false (set (putInto coded l) 0 code) ≡ mainPointer r6 r7) × Codes (set (putInto coded l) 0 code))
+              eight (λ l. (pointIn Ef9345 false (set (putInto coded l) 0 code) ≡ mainPointer Ef9345 r6 r7) × Codes (set (putInto coded l) 0 code))
               (λ a b c d e f g h. (refl, (refl, refl)));
           store = krlCode false i;
           load = krlCode true j;
           stores = krl-uses false i;
           loads = krl-uses true j;
           from = w;
+          of = o;
           ok = g;
           whole = long;
           sized = s;
@@ -81,27 +84,28 @@ module _ (r6 r7 c a : ℕ) where
         }
 
     abbrev t : Trip
-    t = trip _ _ _ _ _ _ journey
+    t = trip _ _ _ _ _ _ _ journey
 
-    holds : Quiet between (step (storing t) (t .ready)) → Holds (read (mainPointer r6 r7) c a) (end t .processor)
+    holds : Quiet between (step (storing t) (t .ready)) → Holds (read (mainPointer Ef9345 r6 r7) c a) (end t .processor)
     holds quiet =
         let kept =
-        narrow-kept-in (t .ready) (t .sized) (storing t) (back t) (reading t) i j refl (stored-now _ _ _ _ _ _ journey) (quiet-back _ _ _ _ _ _ journey quiet)
-        refl (read-now _ _ _ _ _ _ journey) (same-pointer _ _ _ _ _ _ journey) in
-        let m = meant _ _ _ _ _ _ journey in
+        narrow-kept-in (t .ready) (t .sized) (storing t) (back t) (reading t) i j refl (stored-now _ _ _ _ _ _ _ journey) (quiet-back _ _ _ _ _ _ _ journey quiet)
+        refl (read-now _ _ _ _ _ _ _ journey) (same-pointer _ _ _ _ _ _ _ journey) in
+        let m = meant _ _ _ _ _ _ _ journey in
         let r3 = registerOf (registered (storing t) (t .ready)) 3 in
         let nibble =
-        ap (λ (u : Triple). bothHalves (nibbleFor (isOdd u) r3)) (stored-at _ _ _ _ _ _ journey)
-        ∙ ap (λ (v : ℕ). bothHalves (nibbleFor (isOdd (mainPointer r6 r7)) v)) (m .1) in
+        ap (λ (u : Triple). bothHalves (nibbleFor (isOdd u) r3)) (stored-at _ _ _ _ _ _ _ journey)
+        ∙ ap (λ (v : ℕ). bothHalves (nibbleFor (isOdd (mainPointer Ef9345 r6 r7)) v)) (m .1) in
         ((omega arith, omega arith, kept .0 ∙ m .0), ((omega arith, omega arith, kept .1 ∙ nibble), tt))
 
 pub narrow-round-trip : NarrowRoundTrip
 narrow-round-trip blocks m rom picture before between r6 r7 c a i j e g quiet =
-    let w = first blocks m rom picture in
+    let w = first Ef9345 blocks m rom picture in
     let u = run before w in
-    let whole = run-whole before w (power-up-whole blocks m e) in
-    let sized = run-sized before w (power-up-sized blocks) in
-    let board = board-stays before w ∙ power-up-blocks blocks in
-    let fits = ap (λ (n : ℕ). allFitted (narrowAddresses n (mainPointer r6 r7))) board ∙ g in
-    round-trip _ _ _ _ _ _ (journey r6 r7 c a i j u fits whole sized between) (read (mainPointer r6 r7) c a) (holds r6 r7 c a i j u fits whole sized between quiet)
-    ∙ ap (λ (l : List Reply). reply 0 0 ∷ reply 0 0 ∷ reply 0 0 ∷ l) (answered (mainPointer r6 r7) c a)
+    let whole = run-whole before w (power-up-whole Ef9345 blocks m e) in
+    let sized = run-sized before w (power-up-sized Ef9345 blocks) in
+    let board = run-power-up Ef9345 blocks before m rom picture in
+    let fits = ap (λ (n : ℕ). allFitted (narrowAddresses n (mainPointer Ef9345 r6 r7))) (board .1) ∙ g in
+    round-trip _ _ _ _ _ _ _ (journey r6 r7 c a i j u (board .0) fits whole sized between) (read (mainPointer Ef9345 r6 r7) c a)
+    (holds r6 r7 c a i j u (board .0) fits whole sized between quiet)
+    ∙ ap (λ (l : List Reply). reply 0 0 ∷ reply 0 0 ∷ reply 0 0 ∷ l) (answered (mainPointer Ef9345 r6 r7) c a)

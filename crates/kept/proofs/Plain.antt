@@ -7,7 +7,7 @@ use mathlib.Core.List.{List}
 use native.Mathlib.Omega.{arith}
 use lib.ListN.{length}
 use borrow.Author.Tests.{eq-eqb, ne-eqb}
-use Rattle.address.specs.Boards.{bytesOf}
+use Rattle.board.specs.Boards.{bytesOf}
 use Rattle.basics.specs.Bits.{bits, isSet}
 use Rattle.command.specs.declared.answer.Answer.the-variants.{Accepted}
 use Rattle.processor.specs.declared.state.Processor.{Processor}

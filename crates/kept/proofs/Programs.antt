@@ -9,7 +9,7 @@ use lib.ListN.{length, set}
 use lib.Seq.{getD-set-same}
 use borrow.Author.Tests.{eq-eqb, ne-eqb}
 use Rattle.command.specs.declared.Command.{Command}
-use Rattle.command.specs.Commands.{commandOf}
+use Rattle.command.specs.Commands.{commandFor}
 use Rattle.processor.specs.declared.state.Processor.{Processor}
 use Rattle.processor.specs.States.{chip, registerOf, registerRead, withRegister, withRegisters}
 use Rattle.processor.specs.Access.{Outcome, isUnlisted, isAstray, isUnfitted, effect}
@@ -81,7 +81,7 @@ module _ (w : World) (whole : Whole w) (s : Sized (w .processor)) (code : ℕ) w
   command-there = getD-set-same (w .processor .registers) 0 code 0 (rw (s .0) (omega arith))
 
   module _
-      (c : Command) (is : commandOf code ≡ c) (u : isUnlisted c ≡ false) (a : isAstray c (withRegister (w .processor) 0 code) ≡ false)
+      (c : Command) (is : commandFor (w .processor .part) code ≡ c) (u : isUnlisted c ≡ false) (a : isAstray c (withRegister (w .processor) 0 code) ≡ false)
       (f : isUnfitted c (withRegister (w .processor) 0 code) ≡ false) where
     first-none : firstOf (order (execute code) w) ≡ 0
     first-none = rw (eq-eqb _ _ whole, command-there, is, u, a, f)
@@ -90,7 +90,7 @@ module _ (w : World) (whole : Whole w) (s : Sized (w .processor)) (code : ℕ) w
     execute-reply = answered-in-order (execute code) w ∙ ap (λ (n : ℕ). reply n 0) first-none
 
     pub execute-runs : commandRun (execute code) w ≡ c
-    execute-runs = rw (number-first (execute code) w ∙ first-none) (ap commandOf command-there ∙ is)
+    execute-runs = rw (number-first (execute code) w ∙ first-none) (ap (commandFor (w .processor .part)) command-there ∙ is)
 
     pub execute-step :
         isNop c ≡ false →

@@ -11,7 +11,7 @@ use borrow.Author.Tests.{eqb-true}
 use Rattle.basics.specs.Bits.{isSet}
 use Rattle.basics.specs.Choice.{pick}
 use Rattle.basics.proofs.Choice.{and-left, and-right}
-use Rattle.address.specs.Boards.{bytesOf}
+use Rattle.board.specs.Boards.{bytesOf}
 use Rattle.command.specs.declared.Command.{Command}
 use Rattle.command.specs.declared.Command.the-variants.{Nop, Ind, Krf, Oct, Krl, NotListed}
 use Rattle.command.specs.Answers.{numberOf}
@@ -46,6 +46,13 @@ access-ran address v k p asked =
 abbrev pub atCommand : Operation → World → Chip
 atCommand o w = chip (registered o w) (lentOf (memoryLent o) (w .memory))
 
+-- the register access leaves the part
+registered-part : (o : Operation) (w : World) → registered o w .part ≡ w .processor .part
+registered-part (write x address v) w = refl
+registered-part (read x address) w = refl
+registered-part (turn x n) w = refl
+registered-part (draw x y z) w = refl
+
 accepted-ran :
     (o : Operation) (w : World) → asks o ≡ true → done o w .number ≡ 0 →
     Ran (commandIn (registered o w)) (atCommand o w) (done o w .processor) (done o w .memory)
@@ -69,7 +76,7 @@ picked false c d e n = absurd (false≢true (sym n ∙ ap isNop (sym e)))
 pub command-ran :
     (o : Operation) (w : World) (c : Command) → isNop c ≡ false → commandRun o w ≡ c → Ran c (atCommand o w) (done o w .processor) (done o w .memory)
 command-ran o w c n e =
-    let p = picked (asks o && eqb (done o w .number) 0) (commandIn (registered o w)) c e n in
+    let p = picked (asks o && eqb (done o w .number) 0) (commandIn (registered o w)) c (rw (registered-part o w) e) n in
     let a = and-left (asks o) (eqb (done o w .number) 0) (p .0) in
     let z = eqb-true (done o w .number) 0 (and-right (asks o) (eqb (done o w .number) 0) (p .0)) in
     rw (p .1) at (accepted-ran o w a z)

@@ -8,14 +8,17 @@ use mathlib.Core.Logic.{_≢_, inl}
 use native.Mathlib.Omega.{arith}
 use lib.ListN.{length, replicate, length-replicate, length-set}
 use Rattle.address.specs.Addresses.{addressOf}
-use Rattle.address.specs.Boards.{isBoard, fullBoard, bytesOf}
+use Rattle.board.specs.Boards.{isBoard, fullBoard, bytesOf}
+use Rattle.board.specs.declared.Part.{Part}
+use Rattle.board.specs.declared.Part.the-variants.{Ef9345}
 use Rattle.address.specs.Places.{placeOf}
 use Rattle.address.specs.Triples.{onPage, legalY}
 use Rattle.shown.specs.Lengths.{romBytes, fortyBytes, pictureBytes}
 use Rattle.shown.specs.Modes.{isEighty}
 use Rattle.shown.specs.Refusals.{refused7, refused8}
 use Rattle.command.specs.declared.Command.the-variants.{Ind}
-use Rattle.command.specs.Commands.{commandOf}
+use Rattle.command.specs.Commands.{commandOf, commandFor}
+use Rattle.command.proofs.Listed.{named, lists-ind}
 use Rattle.processor.specs.States.{poweredUp, withRegister, indirectWritten}
 use Rattle.processor.specs.Access.{indirect}
 use Rattle.processor.specs.Pointers.{pointerOf}
@@ -36,33 +39,49 @@ pub long : (n : ℕ) → length (zeros n) ≡ n
 unfolding zeros
 long n = length-replicate n 0
 
--- power-up of the 16 block board
-abbrev pub memoryBytes : ℕ
-memoryBytes = bytesOf fullBoard
-
 abbrev pub picture : List ℕ
 picture = zeros (pictureBytes fortyBytes)
 
+-- power-up of a part with so many blocks
+module _ (part : Part) (blocks : ℕ) where
+  abbrev pub start : World
+  start = first part blocks (zeros (bytesOf blocks)) (zeros (romBytes part)) picture
+
+  start-whole : Whole start
+  start-whole = power-up-whole part blocks (zeros (bytesOf blocks)) (long (bytesOf blocks))
+
+-- of an EF9345 with 16
+abbrev pub memoryBytes : ℕ
+memoryBytes = bytesOf fullBoard
+
+abbrev pub characters : ℕ
+characters = romBytes Ef9345
+
 abbrev pub at-first : World
-at-first = first fullBoard (zeros memoryBytes) (zeros romBytes) picture
-
-pub whole : Whole at-first
-whole = power-up-whole fullBoard (zeros memoryBytes) (long memoryBytes)
-
-pub sized : Sized (at-first .processor)
-sized = power-up-sized fullBoard
+at-first = start Ef9345 fullBoard
 
 -- an operation at once
 at-once : (o : Operation) (n : ℕ) → Fair o at-first → done o at-first .number ≡ n → Gives n
 at-once o n g e =
-    record { blocks = fullBoard; board = refl; memory = zeros memoryBytes; rom = zeros romBytes; picture = picture; before = []; last = o; fair = (g, tt); happens = e }
+    record {
+      part = Ef9345;
+      blocks = fullBoard;
+      board = refl;
+      memory = zeros memoryBytes;
+      rom = zeros characters;
+      picture = picture;
+      before = [];
+      last = o;
+      fair = (g, tt);
+      happens = e;
+    }
 
 -- no list is as long as a memory, a ROM or a picture
 none-long : (n : ℕ) → 0 < n → length {A = ℕ} [] ≢ n
 none-long n l e = omega arith
 
 gives-0 : Gives 0
-unfolding poweredUp commandOf
+unfolding poweredUp commandOf commandFor
 gives-0 = at-once (write own 0x20 0x00) 0 tt (number-first (write own 0x20 0x00) at-first ∙ rw (long memoryBytes))
 
 gives-1 : Gives 1
@@ -74,27 +93,27 @@ unfolding poweredUp
 gives-2 = at-once (write own 0x30 0x00) 2 tt (number-first (write own 0x30 0x00) at-first ∙ rw (long memoryBytes))
 
 gives-3 : Gives 3
-unfolding poweredUp commandOf
+unfolding poweredUp commandOf commandFor
 gives-3 = at-once (write own 0x28 0x05) 3 tt (number-first (write own 0x28 0x05) at-first ∙ rw (long memoryBytes))
 
 gives-5 : Gives 5
 unfolding poweredUp
 gives-5 =
     let o = draw own (other []) own in
-    at-once o 5 (tt, none-long romBytes (omega arith), inl tt) (number-first o at-first ∙ rw (long memoryBytes))
+    at-once o 5 (tt, none-long characters (omega arith), inl tt) (number-first o at-first ∙ rw (long memoryBytes))
 
 gives-6 : Gives 6
 unfolding poweredUp isEighty refused7
 gives-6 =
     let o = draw own own (other []) in
-    at-once o 6 (tt, tt, inl (none-long (pictureBytes fortyBytes) (omega arith))) (number-first o at-first ∙ rw (long memoryBytes, long romBytes))
+    at-once o 6 (tt, tt, inl (none-long (pictureBytes fortyBytes) (omega arith))) (number-first o at-first ∙ rw (long memoryBytes, long characters))
 
 -- at power-up the origin is 0
 gives-8 : Gives 8
 unfolding poweredUp isEighty refused7 refused8
 gives-8 =
     at-once (draw own own own) 8 (tt, tt, inl tt)
-    (number-first (draw own own own) at-first ∙ rw (long memoryBytes, long romBytes, long (pictureBytes fortyBytes)))
+    (number-first (draw own own own) at-first ∙ rw (long memoryBytes, long characters, long (pictureBytes fortyBytes)))
 
 gives-9 : Gives 9
 unfolding poweredUp
@@ -102,36 +121,38 @@ gives-9 = at-once (turn own 2) 9 tt (number-first (turn own 2) at-first ∙ rw (
 
 -- KRF at X 40, which is written to R7 first
 gives-4 : Gives 4
-unfolding poweredUp commandOf pointerOf addressOf onPage legalY placeOf
+unfolding poweredUp commandOf commandFor pointerOf addressOf onPage legalY placeOf
 gives-4 =
     record {
+      part = Ef9345;
       blocks = fullBoard;
       board = refl;
       memory = zeros memoryBytes;
-      rom = zeros romBytes;
+      rom = zeros characters;
       picture = picture;
       before = put 7 40 ∷ [];
       last = execute 0x00;
       fair = (tt, (tt, tt));
       happens =
-          subst (λ (w : World). done (execute 0x00) w .number ≡ 4) (sym (put-step at-first whole 7 40 (omega arith)))
+          subst (λ (w : World). done (execute 0x00) w .number ≡ 4) (sym (put-step at-first (start-whole Ef9345 fullBoard) 7 40 (omega arith)))
           (number-first (execute 0x00) (written-in at-first 7 40) ∙ rw (long memoryBytes));
     }
 
 -- KRF at (0, 0, 0) of a 2 block board: A is in block 2
 gives-11 : Gives 11
-unfolding poweredUp commandOf pointerOf addressOf onPage legalY placeOf
+unfolding poweredUp commandOf commandFor pointerOf addressOf onPage legalY placeOf
 gives-11 =
     record {
+      part = Ef9345;
       blocks = 2;
       board = refl;
       memory = zeros (bytesOf 2);
-      rom = zeros romBytes;
+      rom = zeros characters;
       picture = picture;
       before = [];
       last = execute 0x00;
       fair = (tt, tt);
-      happens = number-first (execute 0x00) (first 2 (zeros (bytesOf 2)) (zeros romBytes) picture) ∙ rw (long (bytesOf 2));
+      happens = number-first (execute 0x00) (first Ef9345 2 (zeros (bytesOf 2)) (zeros characters) picture) ∙ rw (long (bytesOf 2));
     }
 
 -- IND: v written to R1 and from there to the register that the command names
@@ -147,31 +168,34 @@ pub setting-in :
 unfolding indirect
 setting-in w whole s v code r is =
     ap (step (execute code)) (put-step w whole 1 v (omega arith))
-    ∙ execute-step (written-in w 1 v) whole (length-set (w .processor .registers) 1 v ∙ s .0, s .1, s .2) code (Ind r false) is refl refl refl refl
+    ∙ execute-step (written-in w 1 v) whole (length-set (w .processor .registers) 1 v ∙ s .0, s .1, s .2) code (Ind r false)
+    (named (w .processor .part) code (Ind r false) is (lists-ind (w .processor .part) r false)) refl refl refl refl
 
 -- the same from power-up
-abbrev pub set-up : ℕ → ℕ → ℕ → World
-set-up v code r = set-in at-first v code r
+module _ (part : Part) (blocks : ℕ) where
+  abbrev pub set-up : ℕ → ℕ → ℕ → World
+  set-up v code r = set-in (start part blocks) v code r
 
-pub setting-up : (v code r : ℕ) → commandOf code ≡ Ind r false → run (setting v code) at-first ≡ set-up v code r
-setting-up = setting-in at-first whole sized
+  pub setting-up : (v code r : ℕ) → commandOf code ≡ Ind r false → run (setting v code) (start part blocks) ≡ set-up v code r
+  setting-up = setting-in (start part blocks) (start-whole part blocks) (power-up-sized part blocks)
 
 -- 128 in TGS
 gives-7 : Gives 7
-unfolding poweredUp commandOf indirectWritten isEighty refused7
+unfolding poweredUp commandOf commandFor indirectWritten isEighty refused7
 gives-7 =
     record {
+      part = Ef9345;
       blocks = fullBoard;
       board = refl;
       memory = zeros memoryBytes;
-      rom = zeros romBytes;
+      rom = zeros characters;
       picture = picture;
       before = setting 128 0x81;
       last = draw own own own;
       fair = (tt, (tt, ((tt, tt, inl tt), tt)));
       happens =
-          subst (λ (w : World). done (draw own own own) w .number ≡ 7) (sym (setting-up 128 0x81 1 refl))
-          (number-first (draw own own own) (set-up 128 0x81 1) ∙ rw (long memoryBytes, long romBytes));
+          subst (λ (w : World). done (draw own own own) w .number ≡ 7) (sym (setting-up Ef9345 fullBoard 128 0x81 1 refl))
+          (number-first (draw own own own) (set-up Ef9345 fullBoard 128 0x81 1) ∙ rw (long memoryBytes, long characters));
     }
 
 pub each-number-reached : EachNumberReached

@@ -1,5 +1,5 @@
--- Demand 1: a draw of 25 rows, one of some and not all, and one of 80 columns after one of 40 is accepted after a run of operations from
--- power-up.
+-- Demand 1: a draw of 25 rows of either part, one of some and not all, and one of 80 columns after one of 40 is accepted after a run of
+-- operations from power-up.
 -- Assumes nothing.
 use Prim.Native.Nat.{ℕ, _<_}
 use mathlib.Core.Path.{_≡_, refl, sym, ap, subst, _∙_}
@@ -8,12 +8,15 @@ use mathlib.Core.List.{List, [], _∷_}
 use mathlib.Core.Logic.{_≢_, inl, inr}
 use native.Mathlib.Omega.{arith}
 use lib.ListN.{length, length-set}
+use borrow.Author.Tests.{eq-eqb}
 use Rattle.basics.specs.Below.{countBelow, anyBelow}
 use Rattle.basics.specs.Parts.{joined}
 use Rattle.basics.proofs.Below.{count-some, count-less}
 use Rattle.basics.proofs.Parts.{table-at, length-table}
 use Rattle.address.specs.Addresses.{addressOf}
-use Rattle.address.specs.Boards.{fullBoard}
+use Rattle.board.specs.Boards.{fullBoard, bytesOf}
+use Rattle.board.specs.declared.Part.{Part}
+use Rattle.board.specs.declared.Part.the-variants.{Ef9345, Ts9347}
 use Rattle.address.specs.Places.{placeOf}
 use Rattle.address.specs.Rows.{rowY}
 use Rattle.address.specs.Triples.{onPage, legalY}
@@ -21,33 +24,35 @@ use Rattle.shown.specs.declared.Shown.{Shown}
 use Rattle.shown.specs.Lengths.{romBytes, fortyBytes, eightyBytes, pictureBytes}
 use Rattle.shown.specs.Modes.{isEighty}
 use Rattle.shown.specs.Refusals.{refused7, refused8, canDraw}
+use Rattle.shown.proofs.Modes.{forty-tgs}
 use Rattle.page.specs.Codes.{codeAddress, codeAt}
 use Rattle.page.specs.Marks.{isMarked, markedRows, noneMarked}
 use Rattle.picture.specs.Redraws.{redrawn}
 use Rattle.picture.proofs.Redrawing.{redrawn-long}
 use Rattle.reading.specs.Lists.{codeHolds, rowHolds, cellHolds, slicesHold, hasTall, aboveHolds, onList}
 use Rattle.command.specs.declared.Command.the-variants.{Ind, Oct}
-use Rattle.command.specs.Commands.{commandOf}
+use Rattle.command.specs.Commands.{commandOf, commandFor}
 use Rattle.processor.specs.States.{chip, poweredUp, shownOf, withRegister, withMarks, cleared, indirectWritten}
 use Rattle.processor.specs.Bytes.{oct, stored}
 use Rattle.processor.specs.Draws.{DrawOutcome, drawnPage}
 use Rattle.processor.specs.Pointers.{pointerOf, incrementedIf}
-use Rattle.cell.specs.Cells.{cellOf, bichromeOf, setOf}
+use Rattle.cell.specs.Cells.{cellOf, bichromeOf, ef9345Set}
 use Rattle.page.specs.Halves.{isTall}
-use Rattle.kept.specs.Demands.{Redraws, EightyReached, DrawsReached, put, execute}
+use Rattle.kept.specs.Demands.{Redraws, EightyReached, Ts9347Reached, DrawsReached, put, execute}
 use Rattle.kept.specs.Orders.{firstOf, order}
 use Rattle.kept.specs.Premises.{EveryRowMarked}
 use Rattle.kept.specs.Runs.{Lent, own, other, Operation, draw, World, step, run, done, pictureLent, Reply, reply, replyTo}
+use Rattle.kept.proofs.Boards.{run-power-up}
 use Rattle.kept.proofs.Numbers.{answered-in-order}
 use Rattle.kept.proofs.Programs.{execute-step}
 use Rattle.kept.proofs.Marks.{store-marks-exact}
-use Rattle.kept.proofs.Reached.{zeros, long, memoryBytes, picture, at-first, setting, set-in, setting-in, set-up, setting-up}
+use Rattle.kept.proofs.Reached.{zeros, long, picture, start, memoryBytes, characters, at-first, setting, set-in, setting-in, set-up, setting-up}
 use Rattle.kept.proofs.Refusals.{worldWith}
 use Rattle.kept.proofs.Walk.{draw-known}
 
 -- what is shown with ROR 8: row 0 is Y 0 and row 1 is Y 8
 abbrev plainly : Shown
-plainly = record { tgs = 0; mat = 0; pat = 0; dor = 0; ror = 8; phase = 0; blocks = fullBoard }
+plainly = record { tgs = 0; mat = 0; pat = 0; dor = 0; ror = 8; phase = 0; blocks = fullBoard; part = Ef9345 }
 
 -- the byte at place 0 is C of the first cell of row 0, and nothing that row 1 reads: no cell of zeros is tall or has slices in memory
 listed : onList plainly (zeros memoryBytes) 0 0 ≡ true
@@ -55,24 +60,12 @@ unfolding zeros onList rowHolds codeHolds codeAddress addressOf onPage legalY an
 listed = refl
 
 unlisted : onList plainly (zeros memoryBytes) 0 1 ≡ false
-unfolding zeros onList rowHolds codeHolds codeAddress addressOf onPage legalY anyBelow slicesHold cellHolds hasTall aboveHolds codeAt placeOf rowY cellOf bichromeOf setOf isTall isEighty
+unfolding zeros onList rowHolds codeHolds codeAddress addressOf onPage legalY anyBelow slicesHold cellHolds hasTall aboveHolds codeAt placeOf rowY cellOf bichromeOf ef9345Set isTall isEighty
 unlisted = refl
 
 ror-listed : commandOf 0x87 ≡ Ind 7 false
 unfolding commandOf
 ror-listed = refl
-
--- ROR 8, and every row marked
-abbrev shown-all : World
-shown-all = set-up 8 0x87 7
-
-all-first : firstOf (order (draw own own own) shown-all) ≡ 0
-unfolding poweredUp indirectWritten isEighty refused7 refused8
-all-first = rw (long memoryBytes, long romBytes, long (pictureBytes fortyBytes))
-
-all-rows : markedRows (shown-all .processor .marks) 25 ≡ 25
-unfolding poweredUp indirectWritten countBelow joined
-all-rows = refl
 
 -- an accepted draw's answer, and what it leaves
 accepted-draw :
@@ -94,14 +87,38 @@ draw-said :
     (z : Lent) (w : World) (n : ℕ) → firstOf (order (draw own own z) w) ≡ 0 → markedRows (w .processor .marks) 25 ≡ n → replyTo (draw own own z) w ≡ reply 0 n
 draw-said z w n e m = answered-in-order (draw own own z) w ∙ rw e (ap (reply 0) m)
 
+-- ROR 8, and every row marked, of either part
+module _ (part : Part) (blocks : ℕ) where
+  abbrev shown-all : World
+  shown-all = set-up part blocks 8 0x87 7
+
+  all-forty : isEighty (shownOf (shown-all .processor)) ≡ false
+  unfolding poweredUp indirectWritten
+  all-forty = sym (forty-tgs (shownOf (shown-all .processor)) (omega arith))
+
+  all-first : firstOf (order (draw own own own) shown-all) ≡ 0
+  unfolding poweredUp indirectWritten refused7 refused8
+  all-first =
+      rw (eq-eqb _ _ (long (bytesOf blocks)), eq-eqb _ _ (long (romBytes part)), all-forty, eq-eqb _ _ (long (pictureBytes fortyBytes)))
+
+  all-rows : markedRows (shown-all .processor .marks) 25 ≡ 25
+  unfolding poweredUp indirectWritten countBelow joined
+  all-rows = refl
+
+  all-said : replyTo (draw own own own) (run (setting 8 0x87) (start part blocks)) ≡ reply 0 25
+  all-said =
+      subst (λ (w : World). replyTo (draw own own own) w ≡ reply 0 25) (sym (setting-up part blocks 8 0x87 7 ror-listed))
+      (draw-said own shown-all 25 all-first all-rows)
+
 draws-all : Redraws (λ n. n ≡ 25)
 draws-all =
-    let said = subst (λ (w : World). replyTo (draw own own own) w ≡ reply 0 25) (sym (setting-up 8 0x87 7 ror-listed)) (draw-said own shown-all 25 all-first all-rows) in
+    let said = all-said Ef9345 fullBoard in
     record {
+      part = Ef9345;
       blocks = fullBoard;
       board = refl;
       memory = zeros memoryBytes;
-      rom = zeros romBytes;
+      rom = zeros characters;
       picture = picture;
       before = setting 8 0x87;
       last = draw own own own;
@@ -109,14 +126,37 @@ draws-all =
       happens = (refl, ap (λ (a : Reply). a .number) said, ap (λ (a : Reply). a .value) said);
     }
 
--- after that draw no row is marked
+draws-ts9347 : Ts9347Reached
+draws-ts9347 =
+    let said = all-said Ts9347 32 in
+    record {
+      part = Ts9347;
+      blocks = 32;
+      board = refl;
+      memory = zeros (bytesOf 32);
+      rom = zeros (romBytes Ts9347);
+      picture = picture;
+      before = setting 8 0x87;
+      last = draw own own own;
+      fair = (tt, (tt, ((tt, tt, inl tt), tt)));
+      happens = (
+        run-power-up Ts9347 32 (setting 8 0x87) (zeros (bytesOf 32)) (zeros (romBytes Ts9347)) picture .0,
+        ap (λ (a : Reply). a .number) said,
+        ap (λ (a : Reply). a .value) said,
+      );
+    }
+
+-- after that draw of the EF9345 no row is marked
+abbrev shown-full : World
+shown-full = shown-all Ef9345 fullBoard
+
 abbrev after-draw : World
 after-draw =
-    let p = shown-all .processor in
-    worldWith at-first (withMarks p noneMarked) (zeros memoryBytes) (redrawn (p .marks) picture (zeros memoryBytes) (zeros romBytes) (shownOf p))
+    let p = shown-full .processor in
+    worldWith at-first (withMarks p noneMarked) (zeros memoryBytes) (redrawn (p .marks) picture (zeros memoryBytes) (zeros characters) (shownOf p))
 
-drawing-all : step (draw own own own) shown-all ≡ after-draw
-drawing-all = accepted-draw shown-all all-first
+drawing-all : step (draw own own own) shown-full ≡ after-draw
+drawing-all = accepted-draw shown-full (all-first Ef9345 fullBoard)
 
 -- OCT then stores R1, which is 8, at (0, 0, 0)
 abbrev after-store : World
@@ -125,7 +165,7 @@ after-store =
     worldWith after-draw (oct false false false k .processor) (oct false false false k .memory) (after-draw .picture)
 
 storing : step (execute 0x30) after-draw ≡ after-store
-unfolding commandOf poweredUp indirectWritten pointerOf addressOf onPage legalY placeOf
+unfolding commandOf commandFor poweredUp indirectWritten pointerOf addressOf onPage legalY placeOf
 storing =
     execute-step after-draw (long memoryBytes) (refl, refl, length-table (λ r. false) 25) 0x30 (Oct false false false) refl refl refl refl refl
 
@@ -142,7 +182,7 @@ marked-by-list r l =
 -- the draw after it
 after-long : length (after-draw .picture) ≡ pictureBytes fortyBytes
 unfolding isEighty indirectWritten poweredUp
-after-long = redrawn-long (shown-all .processor .marks) picture (zeros memoryBytes) (zeros romBytes) (shownOf (shown-all .processor)) (long (pictureBytes fortyBytes))
+after-long = redrawn-long (shown-full .processor .marks) picture (zeros memoryBytes) (zeros characters) (shownOf (shown-full .processor)) (long (pictureBytes fortyBytes))
 
 stored-memory : length (after-store .memory) ≡ memoryBytes
 unfolding oct stored
@@ -150,7 +190,7 @@ stored-memory = length-set (zeros memoryBytes) _ _ ∙ long memoryBytes
 
 some-first : firstOf (order (draw own own own) after-store) ≡ 0
 unfolding poweredUp indirectWritten oct incrementedIf stored isEighty refused7 refused8
-some-first = rw (stored-memory, long romBytes, after-long)
+some-first = rw (stored-memory, long characters, after-long)
 
 -- the whole run
 abbrev before-some : List Operation
@@ -158,7 +198,7 @@ before-some = put 1 8 ∷ execute 0x87 ∷ draw own own own ∷ execute 0x30 ∷
 
 before-some-run : run before-some at-first ≡ after-store
 before-some-run =
-    ap (run (draw own own own ∷ execute 0x30 ∷ [])) (setting-up 8 0x87 7 ror-listed) ∙ ap (step (execute 0x30)) drawing-all ∙ storing
+    ap (run (draw own own own ∷ execute 0x30 ∷ [])) (setting-up Ef9345 fullBoard 8 0x87 7 ror-listed) ∙ ap (step (execute 0x30)) drawing-all ∙ storing
 
 draws-some : Redraws (λ n. (0 < n) × (n < 25))
 draws-some =
@@ -166,10 +206,11 @@ draws-some =
     let said = subst (λ (w : World). replyTo (draw own own own) w ≡ reply 0 n) (sym before-some-run) (draw-said own after-store n some-first refl) in
     let rows = ap (λ (a : Reply). a .value) said in
     record {
+      part = Ef9345;
       blocks = fullBoard;
       board = refl;
       memory = zeros memoryBytes;
-      rom = zeros romBytes;
+      rom = zeros characters;
       picture = picture;
       before = before-some;
       last = draw own own own;
@@ -214,7 +255,7 @@ longer = other (zeros (pictureBytes eightyBytes))
 
 turned-first : firstOf (order (draw own own longer) turned) ≡ 0
 unfolding poweredUp indirectWritten isEighty refused7 refused8
-turned-first = rw (long memoryBytes, long romBytes, long (pictureBytes eightyBytes))
+turned-first = rw (long memoryBytes, long characters, long (pictureBytes eightyBytes))
 
 abbrev isOther : Lent → Bool
 isOther own = false
@@ -225,7 +266,7 @@ before-turned = put 1 8 ∷ execute 0x87 ∷ draw own own own ∷ put 1 0xC0 ∷
 
 before-turned-run : run before-turned at-first ≡ turned
 before-turned-run =
-    ap (run (draw own own own ∷ setting 0xC0 0x81)) (setting-up 8 0x87 7 ror-listed) ∙ ap (run (setting 0xC0 0x81)) drawing-all ∙ turning
+    ap (run (draw own own own ∷ setting 0xC0 0x81)) (setting-up Ef9345 fullBoard 8 0x87 7 ror-listed) ∙ ap (run (setting 0xC0 0x81)) drawing-all ∙ turning
 
 abbrev Wide : World → Type 0
 Wide w =
@@ -246,10 +287,11 @@ turned-wide =
 draws-eighty : EightyReached
 draws-eighty =
     record {
+      part = Ef9345;
       blocks = fullBoard;
       board = refl;
       memory = zeros memoryBytes;
-      rom = zeros romBytes;
+      rom = zeros characters;
       picture = picture;
       before = before-turned;
       last = draw own own longer;
@@ -261,4 +303,4 @@ draws-eighty =
     }
 
 pub draws-reached : DrawsReached
-draws-reached = (draws-all, draws-some, draws-eighty)
+draws-reached = (draws-all, draws-some, draws-eighty, draws-ts9347)

@@ -21,7 +21,7 @@ use Rattle.processor.specs.Pointers.{pointerOf, nextX, incremented, incremented
 use Rattle.address.specs.Narrow.{isOdd, neighbourAt, attributesAt, nibbleFor, bothHalves}
 use Rattle.address.specs.Places.{blockAt, loaded}
 use Rattle.processor.specs.Bytes.{stored, oct, codeRead, codeStored, krf, narrowRead, narrowStored, krl}
-use Rattle.address.specs.Boards.{bytesOf}
+use Rattle.board.specs.Boards.{bytesOf}
 use Rattle.command.specs.declared.Command.{Command}
 use Rattle.command.specs.declared.Command.the-variants.{Krf, Oct, Krl}
 use Rattle.processor.specs.Access.{effect}
@@ -238,16 +238,16 @@ module _ (w : World) (s : Sized (w .processor)) (o : Operation) (between : List 
       )
 
 pub code-kept : CodeKept
-code-kept blocks m rom picture before between o q i j =
-    let w = runs.first blocks m rom picture in code-kept-in (run before w) (run-sized before w (power-up-sized blocks)) o between q i j
+code-kept part blocks m rom picture before between o q i j =
+    let w = runs.first part blocks m rom picture in code-kept-in (run before w) (run-sized before w (power-up-sized part blocks)) o between q i j
 
 pub byte-kept : ByteKept
-byte-kept blocks m rom picture before between o q x y i j =
-    let w = runs.first blocks m rom picture in byte-kept-in (run before w) (run-sized before w (power-up-sized blocks)) o between q x y i j
+byte-kept part blocks m rom picture before between o q x y i j =
+    let w = runs.first part blocks m rom picture in byte-kept-in (run before w) (run-sized before w (power-up-sized part blocks)) o between q x y i j
 
 pub narrow-kept : NarrowKept
-narrow-kept blocks m rom picture before between o q i j =
-    let w = runs.first blocks m rom picture in narrow-kept-in (run before w) (run-sized before w (power-up-sized blocks)) o between q i j
+narrow-kept part blocks m rom picture before between o q i j =
+    let w = runs.first part blocks m rom picture in narrow-kept-in (run before w) (run-sized before w (power-up-sized part blocks)) o between q i j
 
 -- what KRL leaves of the neighbour
 pub neighbour-kept : NeighbourKept

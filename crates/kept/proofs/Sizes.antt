@@ -8,6 +8,7 @@ use lib.Dec.{eqb}
 use lib.ListN.{length, getD, length-set}
 use Rattle.basics.proofs.Choice.{pick-either}
 use Rattle.basics.proofs.Parts.{length-table}
+use Rattle.board.specs.declared.Part.{Part}
 use Rattle.address.specs.declared.triple.Triple.{Triple}
 use Rattle.shown.specs.Modes.{isEighty}
 use Rattle.shown.specs.Refusals.{canDraw}
@@ -86,6 +87,6 @@ step-sized (draw x y z) w s = drawn-sized (w .processor) (lentOf x (w .memory)) 
 pub run-sized : (os : List Operation) (w : World) → Sized (w .processor) → Sized (run os w .processor)
 run-sized os w s = run-known (λ os u. Sized (u .processor)) (λ o os u h. step-sized o u h) os w s
 
-pub power-up-sized : (blocks : ℕ) → Sized (poweredUp blocks)
+pub power-up-sized : (part : Part) (blocks : ℕ) → Sized (poweredUp part blocks)
 unfolding poweredUp
-power-up-sized blocks = (refl, refl, length-table (λ r. true) 25)
+power-up-sized part blocks = (refl, refl, length-table (λ r. true) 25)

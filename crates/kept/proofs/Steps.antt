@@ -79,25 +79,25 @@ module _ (shown : Shown) (m : List ℕ) (marks : List Bool) (r : ℕ) (l : r < 2
   phase-before e = chosen-before (canDraw shown) (flashIn shown m) marks r l e
 
   abbrev flashesBy : Bool → Bool
-  flashesBy eighty = anyBelow (λ x. pick eighty (pairFlashes (codeAt shown m r x)) (flashes (codeAt shown m r x))) 40
+  flashesBy eighty = anyBelow (λ x. pick eighty (pairFlashes (codeAt shown m r x)) (flashes (shown .part) (codeAt shown m r x))) 40
 
   -- no cell flashes, in each mode
   still-eighty : flashIn shown m r ≡ false → isEighty shown ≡ true → anyPairFlashes shown m r ≡ false
   unfolding flashIn
   still-eighty e eighty = sym (ap flashesBy eighty) ∙ e
 
-  still-forty : flashIn shown m r ≡ false → isEighty shown ≡ false → anyFlashes (rowInput shown m r) ≡ false
+  still-forty : flashIn shown m r ≡ false → isEighty shown ≡ false → anyFlashes (shown .part) (rowInput shown m r) ≡ false
   unfolding flashIn rowInput cellInput
   still-forty e forty =
-      any-same _ _ 40 (λ x h. ap (λ (c : CellInput). flashes (c .code)) (table-at (cellInput shown m r) 40 x noInput h))
+      any-same _ _ 40 (λ x h. ap (λ (c : CellInput). flashes (shown .part) (c .code)) (table-at (cellInput shown m r) 40 x noInput h))
       ∙ sym (ap flashesBy forty)
       ∙ e
 
   -- b is what is shown in another phase
   pub phase-keeps :
       (b : Shown) → shown .tgs ≡ b .tgs → shown .mat ≡ b .mat → shown .pat ≡ b .pat → shown .dor ≡ b .dor → shown .ror ≡ b .ror → shown .blocks ≡ b .blocks →
-      canDraw shown ≡ true → isMarked (phaseMarks shown m marks) r ≡ false → (rom : List ℕ) → rowOf m rom shown r ≡ rowOf m rom b r
+      shown .part ≡ b .part → canDraw shown ≡ true → isMarked (phaseMarks shown m marks) r ≡ false → (rom : List ℕ) → rowOf m rom shown r ≡ rowOf m rom b r
   unfolding phaseMarks
-  phase-keeps b tgs mat pat dor ror blocks can e rom =
+  phase-keeps b tgs mat pat dor ror blocks part can e rom =
       let none = not-passed (flashIn shown m) marks r l (rw can at e) in
-      row-steady shown b tgs pat dor ror blocks m rom r mat (still-eighty none) (still-forty none)
+      row-steady shown b tgs pat dor ror blocks part m rom r mat (still-eighty none) (still-forty none)

@@ -18,7 +18,7 @@ use Rattle.processor.specs.States.{Chip, registerOf}
 use Rattle.address.specs.Narrow.{isOdd, neighbourAt, attributesAt, nibbleFor, nibbleInto}
 use Rattle.address.specs.Places.{placeAt, blockAt, loaded}
 use Rattle.processor.specs.Bytes.{stored, codeStored, narrowStored}
-use Rattle.address.specs.Boards.{bytesOf}
+use Rattle.board.specs.Boards.{bytesOf}
 
 -- a store keeps the memory's length
 pub stored-long : (t : Triple) (v : ℕ) (k : Chip) → length (stored t v k .memory) ≡ length (k .memory)

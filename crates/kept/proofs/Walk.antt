@@ -12,7 +12,7 @@ use lib.ListN.{length}
 use borrow.Author.Tests.{not-false}
 use Rattle.basics.proofs.Choice.{pick-known, pick-either}
 use Rattle.basics.specs.Bits.{bits, isSet}
-use Rattle.address.specs.Boards.{bytesOf}
+use Rattle.board.specs.Boards.{bytesOf}
 use Rattle.address.specs.Triples.{legal}
 use Rattle.address.proofs.Fits.{byte-illegal, code-illegal, narrow-illegal}
 use Rattle.address.specs.declared.triple.Triple.{Triple}
@@ -26,7 +26,7 @@ use Rattle.command.specs.declared.answer.Answer.the-variants as answer
 use Rattle.command.specs.declared.answer.Drawing.{Drawing}
 use Rattle.command.specs.declared.answer.Drawing.the-variants as drawing
 use Rattle.command.specs.Answers.{drawNumberOf}
-use Rattle.command.specs.Commands.{commandOf}
+use Rattle.command.specs.Commands.{commandFor}
 use Rattle.processor.specs.States.{Chip, chip, registerOf, registerRead, withRegister, withLx, indirectWritten, shownOf}
 use Rattle.processor.specs.Pointers.{pointerOf, incremented, incrementedIf, advanced, advancedIf}
 use Rattle.processor.specs.Bytes.{stored, oct, codeRead, codeStored, krf, narrowRead, narrowStored, krl}
@@ -43,7 +43,7 @@ isChosen address = eqb (bits 4 4 address) 2
 
 -- the command that would be executed
 abbrev pub commandIn : Processor → Command
-commandIn p = commandOf (registerOf p 0)
+commandIn p = commandFor (p .part) (registerOf p 0)
 
 -- P at each end of an access to k that gives the value v and has left p of the state before its command, with what is known there
 pub record Ends (address v : ℕ) (k : Chip) (p : Processor) (P : Outcome → Type 0) : Type 0 where
@@ -119,7 +119,7 @@ unfolding drawn canDraw
 draw-known P p m rom picture refused accepted =
     pick-known P (eqb (length m) (bytesOf (p .blocks))) _ _
     (λ e1.
-    pick-known P (eqb (length rom) romBytes) _ _
+    pick-known P (eqb (length rom) (romBytes (p .part))) _ _
     (λ e5.
     pick-known P (refused7 _) _ _ (λ e7. refused drawing.NotBuilt (rw (e1, e5, e7)) (λ z. omega arith))
     (λ e7.

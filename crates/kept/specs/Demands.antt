@@ -11,7 +11,9 @@ use mathlib.Core.Logic.{_≢_}
 use lib.ListN.{length}
 use Rattle.basics.specs.Choice.{pick, oneIf}
 use Rattle.address.specs.Addresses.{byteAddresses, codeAddresses, narrowAddresses, allFitted}
-use Rattle.address.specs.Boards.{isBoard, fullBoard, bytesOf}
+use Rattle.board.specs.Boards.{isPart, partNamed, isBoard, bytesOf}
+use Rattle.board.specs.declared.Part.{Part}
+use Rattle.board.specs.declared.Part.the-variants.{Ef9345, Ts9347}
 use Rattle.address.specs.Narrow.{isOdd, attributesAt, neighbourAt, nibbleFor, bothHalves}
 use Rattle.address.specs.Places.{byteAt, loaded}
 use Rattle.address.specs.Pointers.{mainPointer, auxiliaryPointer}
@@ -30,7 +32,7 @@ use Rattle.processor.specs.Access.{Outcome, outcomeOf}
 use Rattle.processor.specs.Draws.{DrawOutcome, drawOutcomeOf}
 use Rattle.processor.specs.Pointers.{pointerOf}
 use Rattle.processor.specs.PowerUps.{poweredUpBoard}
-use Rattle.processor.specs.States.{shownOf, registerOf, poweredUp}
+use Rattle.processor.specs.States.{shownOf, registerOf, poweredUp, powerUp}
 use Rattle.kept.specs.Orders.{order, firstOf, returned, isLate}
 use Rattle.kept.specs.Premises.{Fair, FairRun}
 use Rattle.kept.specs.Quiet.{commandRun, Quiet}
@@ -53,28 +55,32 @@ RefusalLeaves =
     × (done o w .memory ≡ lentOf (memoryLent o) (w .memory))
     × (done o w .picture ≡ lentOf (pictureLent o) (w .picture))
 
--- the size is given at power-up and stays
+-- the part and the size are given at power-up and stay
 abbrev pub BoardStays : Type 0
-BoardStays = (os : List Operation) (w : World) → run os w .processor .blocks ≡ w .processor .blocks
+BoardStays =
+    (os : List Operation) (w : World) →
+    (run os w .processor .part ≡ w .processor .part) × (run os w .processor .blocks ≡ w .processor .blocks)
 
--- at power-up a size that is none of the three is refused with 12 and hands back the 16 block board
+-- at power-up an unknown part is refused with 14, and before that nothing; a size that is none of the part's with 12; both hand back the 16 block board
 abbrev pub BoardChosen : Type 0
 BoardChosen =
-    (blocks : ℕ) →
-    (powerNumberOf (poweredUpBoard blocks .answer) ≡ pick (isBoard blocks) 0 12)
-    × (poweredUpBoard blocks .processor ≡ poweredUp (pick (isBoard blocks) blocks fullBoard))
+    (part blocks : ℕ) →
+    (powerNumberOf (poweredUpBoard part blocks .answer) ≡ pick (isPart part) (pick (isBoard (partNamed part) blocks) 0 12) 14)
+    × (poweredUpBoard part blocks .processor
+    ≡ pick (isPart part && isBoard (partNamed part) blocks) (poweredUp (partNamed part) blocks) powerUp)
 
 -- some operation, after some run from power-up of a board that keeps the premises of demand 3
 pub record Reached (Happens : Operation → World → Type 0) : Type 0 where
+  pub part : Part
   pub blocks : ℕ
-  pub board : isBoard blocks ≡ true
+  pub board : isBoard part blocks ≡ true
   pub memory : List ℕ
   pub rom : List ℕ
   pub picture : List ℕ
   pub before : List Operation
   pub last : Operation
-  pub fair : FairRun (before ++ last ∷ []) (first blocks memory rom picture)
-  pub happens : Happens last (run before (first blocks memory rom picture))
+  pub fair : FairRun (before ++ last ∷ []) (first part blocks memory rom picture)
+  pub happens : Happens last (run before (first part blocks memory rom picture))
 
 -- each number of an operation is given; 11 on a board with less memory
 abbrev pub Gives : ℕ → Type 0
@@ -95,8 +101,12 @@ EightyReached =
     (length (w .picture) ≡ pictureBytes fortyBytes) × (pictureLent o ≢ own) × (isEighty (shownOf (w .processor)) ≡ true)
     × (done o w .number ≡ 0) × (done o w .value ≡ 25))
 
+-- and one of a TS9347, of all 25 rows
+abbrev pub Ts9347Reached : Type 0
+Ts9347Reached = Reached (λ o w. (w .processor .part ≡ Ts9347) × (done o w .number ≡ 0) × (done o w .value ≡ 25))
+
 abbrev pub DrawsReached : Type 0
-DrawsReached = Redraws (λ n. n ≡ 25) × Redraws (λ n. (0 < n) × (n < 25)) × EightyReached
+DrawsReached = Redraws (λ n. n ≡ 25) × Redraws (λ n. (0 < n) × (n < 25)) × EightyReached × Ts9347Reached
 
 -- a contract says that what is returned and what is left make the outcome of the definition: two that do so for the same input are the same
 abbrev pub OneAccess : Type 0
@@ -135,15 +145,15 @@ krlCode reads increments = 0x50 + 8 * oneIf reads + oneIf increments
 abbrev pub codeReplies : ℕ → ℕ → ℕ → List Reply
 codeReplies c b a = reply 0 c ∷ reply 0 b ∷ reply 0 a ∷ []
 
--- after any run on a board of any number of blocks, C, B and A are written to R1, R2 and R3 and stored by KRF at a pointer that is legal with
+-- after any run on a board of either part and any number of blocks, C, B and A are written to R1, R2 and R3 and stored by KRF at a pointer that is legal with
 -- all three blocks fitted; then come operations that store nothing, and
 -- the pointer is set back; KRF reads: R1, R2 and R3 are C, B and A
 abbrev pub CodeRoundTrip : Type 0
 CodeRoundTrip =
-    (blocks : ℕ) (m rom picture : List ℕ) (before between : List Operation) (r6 r7 c b a : ℕ) (i j : Bool) →
-    length m ≡ bytesOf blocks → allFitted (codeAddresses blocks (mainPointer r6 r7)) ≡ true →
+    (part : Part) (blocks : ℕ) (m rom picture : List ℕ) (before between : List Operation) (r6 r7 c b a : ℕ) (i j : Bool) →
+    length m ≡ bytesOf blocks → allFitted (codeAddresses blocks (mainPointer part r6 r7)) ≡ true →
     let pointer = put 6 r6 ∷ put 7 r7 ∷ [] in
-    let stored = run (pointer ++ put 1 c ∷ put 2 b ∷ put 3 a ∷ execute (krfCode false i) ∷ []) (run before (first blocks m rom picture)) in
+    let stored = run (pointer ++ put 1 c ∷ put 2 b ∷ put 3 a ∷ execute (krfCode false i) ∷ []) (run before (first part blocks m rom picture)) in
     Quiet between stored →
     replies (pointer ++ execute (krfCode true j) ∷ get 1 ∷ get 2 ∷ get 3 ∷ []) (run between stored)
     ≡ reply 0 0 ∷ reply 0 0 ∷ reply 0 0 ∷ codeReplies c b a
@@ -151,10 +161,10 @@ CodeRoundTrip =
 -- one byte the same way, by OCT through either pointer
 abbrev pub ByteRoundTrip : Type 0
 ByteRoundTrip =
-    (blocks : ℕ) (m rom picture : List ℕ) (before between : List Operation) (r4 r5 r6 r7 v : ℕ) (auxiliary i j : Bool) →
-    length m ≡ bytesOf blocks → allFitted (byteAddresses blocks (pick auxiliary (auxiliaryPointer r4 r5 r6) (mainPointer r6 r7))) ≡ true →
+    (part : Part) (blocks : ℕ) (m rom picture : List ℕ) (before between : List Operation) (r4 r5 r6 r7 v : ℕ) (auxiliary i j : Bool) →
+    length m ≡ bytesOf blocks → allFitted (byteAddresses blocks (pick auxiliary (auxiliaryPointer part r4 r5 r6) (mainPointer part r6 r7))) ≡ true →
     let pointers = put 4 r4 ∷ put 5 r5 ∷ put 6 r6 ∷ put 7 r7 ∷ [] in
-    let stored = run (pointers ++ put 1 v ∷ execute (octCode false auxiliary i) ∷ []) (run before (first blocks m rom picture)) in
+    let stored = run (pointers ++ put 1 v ∷ execute (octCode false auxiliary i) ∷ []) (run before (first part blocks m rom picture)) in
     Quiet between stored →
     replies (pointers ++ execute (octCode true auxiliary j) ∷ get 1 ∷ []) (run between stored)
     ≡ reply 0 0 ∷ reply 0 0 ∷ reply 0 0 ∷ reply 0 0 ∷ reply 0 0 ∷ reply 0 v ∷ []
@@ -163,23 +173,23 @@ ByteRoundTrip =
 abbrev pub narrowReplies : Triple → ℕ → ℕ → List Reply
 narrowReplies t c a = reply 0 c ∷ reply 0 (bothHalves (nibbleFor (isOdd t) a)) ∷ []
 
--- a 12-bit code the same way, by KRL
+-- a 12-bit code the same way, by KRL, which an EF9345 alone runs
 abbrev pub NarrowRoundTrip : Type 0
 NarrowRoundTrip =
     (blocks : ℕ) (m rom picture : List ℕ) (before between : List Operation) (r6 r7 c a : ℕ) (i j : Bool) →
-    length m ≡ bytesOf blocks → allFitted (narrowAddresses blocks (mainPointer r6 r7)) ≡ true →
+    length m ≡ bytesOf blocks → allFitted (narrowAddresses blocks (mainPointer Ef9345 r6 r7)) ≡ true →
     let pointer = put 6 r6 ∷ put 7 r7 ∷ [] in
-    let stored = run (pointer ++ put 1 c ∷ put 3 a ∷ execute (krlCode false i) ∷ []) (run before (first blocks m rom picture)) in
+    let stored = run (pointer ++ put 1 c ∷ put 3 a ∷ execute (krlCode false i) ∷ []) (run before (first Ef9345 blocks m rom picture)) in
     Quiet between stored →
     replies (pointer ++ execute (krlCode true j) ∷ get 1 ∷ get 3 ∷ []) (run between stored)
-    ≡ reply 0 0 ∷ reply 0 0 ∷ reply 0 0 ∷ narrowReplies (mainPointer r6 r7) c a
+    ≡ reply 0 0 ∷ reply 0 0 ∷ reply 0 0 ∷ narrowReplies (mainPointer Ef9345 r6 r7) c a
 
 -- all three however the commands come to be executed: o, accepted, stores by KRF, OCT or KRL what its registers then hold; q, accepted, reads at a pointer
 -- with the same X, Y and Z
 abbrev pub CodeKept : Type 0
 CodeKept =
-    (blocks : ℕ) (m rom picture : List ℕ) (before between : List Operation) (o q : Operation) (i j : Bool) →
-    let w = run before (first blocks m rom picture) in
+    (part : Part) (blocks : ℕ) (m rom picture : List ℕ) (before between : List Operation) (o q : Operation) (i j : Bool) →
+    let w = run before (first part blocks m rom picture) in
     let u = run between (step o w) in
     memoryLent o ≡ own → commandRun o w ≡ Krf false i → Quiet between (step o w) →
     memoryLent q ≡ own → commandRun q u ≡ Krf true j → pointerOf false (registered q u) ≡ pointerOf false (registered o w) →
@@ -187,8 +197,8 @@ CodeKept =
 
 abbrev pub ByteKept : Type 0
 ByteKept =
-    (blocks : ℕ) (m rom picture : List ℕ) (before between : List Operation) (o q : Operation) (x y i j : Bool) →
-    let w = run before (first blocks m rom picture) in
+    (part : Part) (blocks : ℕ) (m rom picture : List ℕ) (before between : List Operation) (o q : Operation) (x y i j : Bool) →
+    let w = run before (first part blocks m rom picture) in
     let u = run between (step o w) in
     memoryLent o ≡ own → commandRun o w ≡ Oct false x i → Quiet between (step o w) →
     memoryLent q ≡ own → commandRun q u ≡ Oct true y j → pointerOf y (registered q u) ≡ pointerOf x (registered o w) →
@@ -196,8 +206,8 @@ ByteKept =
 
 abbrev pub NarrowKept : Type 0
 NarrowKept =
-    (blocks : ℕ) (m rom picture : List ℕ) (before between : List Operation) (o q : Operation) (i j : Bool) →
-    let w = run before (first blocks m rom picture) in
+    (part : Part) (blocks : ℕ) (m rom picture : List ℕ) (before between : List Operation) (o q : Operation) (i j : Bool) →
+    let w = run before (first part blocks m rom picture) in
     let u = run between (step o w) in
     let t = pointerOf false (registered o w) in
     memoryLent o ≡ own → commandRun o w ≡ Krl false i → Quiet between (step o w) →
@@ -230,9 +240,9 @@ Demand2 = CodeRoundTrip × ByteRoundTrip × NarrowRoundTrip × CodeKept × ByteK
 -- (the premises are FairRun and Fair)
 abbrev pub DrawFresh : Type 0
 DrawFresh =
-    (blocks : ℕ) (m rom picture : List ℕ) (os : List Operation) (x y z : Lent) →
-    let w = run os (first blocks m rom picture) in
-    FairRun os (first blocks m rom picture) → Fair (draw x y z) w → done (draw x y z) w .number ≡ 0 →
+    (part : Part) (blocks : ℕ) (m rom picture : List ℕ) (os : List Operation) (x y z : Lent) →
+    let w = run os (first part blocks m rom picture) in
+    FairRun os (first part blocks m rom picture) → Fair (draw x y z) w → done (draw x y z) w .number ≡ 0 →
     let after = step (draw x y z) w in after .picture ≡ fresh (after .memory) (after .rom) (shownOf (after .processor))
 
 -- row r is marked after an operation exactly when it was before and no accepted draw has cleared it, or the rules mark it

@@ -7,12 +7,12 @@ use lib.Dec.{eqb, leb}
 use lib.ListN.{length}
 use Rattle.basics.specs.Bits.{bits, isSet}
 use Rattle.basics.specs.Choice.{pick}
-use Rattle.address.specs.Boards.{bytesOf}
+use Rattle.board.specs.Boards.{bytesOf}
 use Rattle.shown.specs.Lengths.{romBytes, pictureBytes}
 use Rattle.shown.specs.Modes.{columnBytes}
 use Rattle.shown.specs.Refusals.{refused7, refused8}
 use Rattle.processor.specs.declared.state.Processor.{Processor}
-use Rattle.command.specs.Commands.{commandOf}
+use Rattle.command.specs.Commands.{commandFor}
 use Rattle.page.specs.Marks.{markedRows}
 use Rattle.processor.specs.States.{registerOf, registerRead, shownOf}
 use Rattle.processor.specs.Access.{isUnlisted, isAstray, isUnfitted}
@@ -36,16 +36,16 @@ abbrev pub accessOrder : ℕ → Processor → List ℕ → List Refusal
 accessOrder address p m =
     gives (not (eqb (length m) (bytesOf (p .blocks)))) 1
     ∷ gives (not (eqb (bits 4 4 address) 2)) 2
-    ∷ gives (isSet 3 address && isUnlisted (commandOf (registerOf p 0))) 3
-    ∷ gives (isSet 3 address && isAstray (commandOf (registerOf p 0)) p) 4
-    ∷ gives (isSet 3 address && isUnfitted (commandOf (registerOf p 0)) p) 11
+    ∷ gives (isSet 3 address && isUnlisted (commandFor (p .part) (registerOf p 0))) 3
+    ∷ gives (isSet 3 address && isAstray (commandFor (p .part) (registerOf p 0)) p) 4
+    ∷ gives (isSet 3 address && isUnfitted (commandFor (p .part) (registerOf p 0)) p) 11
     ∷ []
 
 -- draw 1, 5, 7, 6, 8; 6 asks for the length that goes with the mode
 abbrev pub drawOrder : Processor → List ℕ → List ℕ → List ℕ → List Refusal
 drawOrder p m rom picture =
     gives (not (eqb (length m) (bytesOf (p .blocks)))) 1
-    ∷ gives (not (eqb (length rom) romBytes)) 5
+    ∷ gives (not (eqb (length rom) (romBytes (p .part)))) 5
     ∷ gives (refused7 (shownOf p)) 7
     ∷ gives (not (eqb (length picture) (pictureBytes (columnBytes (shownOf p))))) 6
     ∷ gives (refused8 (shownOf p)) 8

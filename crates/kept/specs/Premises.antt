@@ -7,7 +7,7 @@ use mathlib.Core.Bool.{true}
 use mathlib.Core.List.{List, [], _∷_}
 use mathlib.Core.Logic.{_≢_, _⊎_}
 use lib.ListN.{length}
-use Rattle.address.specs.Boards.{bytesOf}
+use Rattle.board.specs.Boards.{bytesOf}
 use Rattle.shown.specs.Lengths.{romBytes, pictureBytes}
 use Rattle.shown.specs.Modes.{columnBytes}
 use Rattle.page.specs.Marks.{isMarked}
@@ -32,7 +32,7 @@ abbrev pub Fair : Operation → World → Type 0
 Fair (write x address v) w = FairMemory x w
 Fair (read x address) w = FairMemory x w
 Fair (turn x n) w = FairMemory x w
-Fair (draw x y z) w = FairMemory x w × OwnOrWrong romBytes y × FairPicture z w
+Fair (draw x y z) w = FairMemory x w × OwnOrWrong (romBytes (w .processor .part)) y × FairPicture z w
 
 -- each operation of a run
 abbrev pub FairRun : List Operation → World → Type 0

@@ -8,7 +8,7 @@ use Rattle.basics.specs.Bits.{isSet}
 use Rattle.basics.specs.Choice.{pick}
 use Rattle.command.specs.declared.Command.{Command}
 use Rattle.command.specs.declared.Command.the-variants.{Nop, Ind, Krf, Oct, Krl, NotListed}
-use Rattle.command.specs.Commands.{commandOf}
+use Rattle.command.specs.Commands.{commandFor}
 use Rattle.processor.specs.States.{registerOf}
 use Rattle.kept.specs.Runs.{Operation, write, read, turn, draw, World, done, registered, step}
 
@@ -43,7 +43,7 @@ asks (draw x y z) = false
 
 -- the command that an operation executes: none, NOP, where it is refused or asks for none
 abbrev pub commandRun : Operation → World → Command
-commandRun o w = pick (asks o && eqb (done o w .number) 0) (commandOf (registerOf (registered o w) 0)) Nop
+commandRun o w = pick (asks o && eqb (done o w .number) 0) (commandFor (w .processor .part) (registerOf (registered o w) 0)) Nop
 
 abbrev pub stores : Operation → World → Bool
 stores o w = isStore (commandRun o w)

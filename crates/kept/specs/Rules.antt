@@ -16,7 +16,7 @@ use Rattle.reading.specs.Marks.{flashIn}
 use Rattle.command.specs.declared.Command.{Command}
 use Rattle.command.specs.declared.Command.the-variants.{Nop, Ind, Krf, Oct, Krl, NotListed}
 use Rattle.processor.specs.declared.state.Processor.{Processor}
-use Rattle.command.specs.Commands.{commandOf}
+use Rattle.command.specs.Commands.{commandFor}
 use Rattle.processor.specs.States.{Chip, chip, registerOf, shownOf, cleared}
 use Rattle.processor.specs.Pointers.{pointerOf}
 use Rattle.processor.specs.Bytes.{stored}
@@ -79,7 +79,7 @@ commandRule NotListed k r = false
 -- an access that is not refused with 1 or 2, and executes; k is what the register access left
 abbrev pub accessRule : ℕ → Chip → ℕ → Bool
 accessRule address k r =
-    isWhole k && (eqb (bits 4 4 address) 2 && (isSet 3 address && commandRule (commandOf (registerOf (k .processor) 0)) k r))
+    isWhole k && (eqb (bits 4 4 address) 2 && (isSet 3 address && commandRule (commandFor (k .processor .part) (registerOf (k .processor) 0)) k r))
 
 abbrev pub marksRow : Operation → World → ℕ → Bool
 marksRow (write x address v) w r = accessRule address (chip (registered (write x address v) w) (lentOf x (w .memory))) r

@@ -5,6 +5,7 @@ use mathlib.Core.List.{List, [], _∷_}
 use lib.Dec.{eqb}
 use Rattle.basics.specs.Bits.{bits}
 use Rattle.basics.specs.Choice.{pick}
+use Rattle.board.specs.declared.Part.{Part}
 use Rattle.command.specs.Answers.{numberOf, valueOf, drawNumberOf, rowsOf}
 use Rattle.processor.specs.declared.state.Processor.{Processor}
 use Rattle.processor.specs.States.{Chip, chip, poweredUp, withRegister}
@@ -31,9 +32,9 @@ pub record World : Type 0 where
   pub rom : List ℕ
   pub picture : List ℕ
 
--- power-up of a board of any number of blocks, with any memory, ROM and picture
-abbrev pub first : ℕ → List ℕ → List ℕ → List ℕ → World
-first blocks m rom picture = record { processor = poweredUp blocks; memory = m; rom = rom; picture = picture }
+-- power-up of a part with any number of blocks, and any memory, ROM and picture
+abbrev pub first : Part → ℕ → List ℕ → List ℕ → List ℕ → World
+first part blocks m rom picture = record { processor = poweredUp part blocks; memory = m; rom = rom; picture = picture }
 
 -- the bytes that are lent, where l are those that are kept
 abbrev pub lentOf : Lent → List ℕ → List ℕ

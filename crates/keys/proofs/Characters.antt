@@ -24,9 +24,13 @@ use Rattle.address.proofs.Addresses.{address-illegal, listed}
 use Rattle.address.proofs.Laws.{page-column, page-row}
 use Rattle.address.proofs.Places.{place-injective}
 use Rattle.shown.specs.declared.Shown.{Shown}
-use Rattle.cell.specs.Cells.{setOf, bichromeOf, quadrichromeOf, isQuadrichrome, cellOf}
+use Rattle.board.specs.declared.Part.{Part}
+use Rattle.board.specs.declared.Part.the-variants.{Ef9345, Ts9347}
+use Rattle.cell.specs.Cells.{ef9345Set, ts9347Set, setOf, bichromeOf, quadrichromeOf, isQuadrichrome, cellOf}
+use Rattle.cell.specs.HowCells.{lastBichrome}
+use Rattle.cell.specs.declared.kind.Set.the-variants.{UserG0, UserG1}
 use Rattle.cell.specs.declared.kind.Cell.the-variants.{Bichrome, Quadrichrome}
-use Rattle.cell.proofs.Codes.{set-UserG0, set-UserG1, cell-bichrome, cell-quadrichrome}
+use Rattle.cell.proofs.Codes.{set-UserG0, set-UserG1, ts9347-UserG0, ts9347-UserG1, ts9347-Q, cell-bichrome, cell-quadrichrome}
 use Rattle.sources.specs.Sources.{setSource, cellSource, characterOf}
 use Rattle.sources.specs.declared.source.Source.{Source}
 use Rattle.sources.specs.declared.source.Source.the-variants.{Rom, Block}
@@ -82,42 +86,63 @@ abbrev oneIs : List ℕ → Source → Bool
 oneIs blocks (Rom set) = false
 oneIs blocks (Block b) = isOne blocks b
 
--- the source of a cell, by B
-module _ (shown : Shown) (c b a : ℕ) where
-  bichrome : b < 192 → cellSource shown (cellOf c b a) ≡ setSource shown (setOf (bits 4 4 b))
+-- the source of a cell, by B, of either part
+module _ (shown : Shown) (c b a : ℕ) (small : b < 256) where
+  abbrev sourceOf : Part → Source
+  sourceOf part = cellSource shown (cellOf part c b a)
+
+  bichrome : (part : Part) → b ≤ lastBichrome part → sourceOf part ≡ setSource shown (setOf part b)
   unfolding bichromeOf
-  bichrome h = ap (cellSource shown) (sym (cell-bichrome c b a h))
+  bichrome part l = ap (cellSource shown) (sym (cell-bichrome part c b a small l))
 
-  source-rom : (blocks : List ℕ) → b < 128 → oneIs blocks (cellSource shown (cellOf c b a)) ≡ false
-  unfolding setOf
-  source-rom blocks h =
-      ap (oneIs blocks) (bichrome (omega arith))
-      ∙ agree-test (λ high. oneIs blocks (setSource shown (setOf high))) (λ high. false) 8 tt (bits 4 4 b) (omega arith)
+  -- below 192 each part has a bichrome cell
+  of-set : (part : Part) → b < 192 → sourceOf part ≡ setSource shown (setOf part b)
+  unfolding lastBichrome
+  of-set Ef9345 l = bichrome Ef9345 (omega arith)
+  of-set Ts9347 l = bichrome Ts9347 (omega arith)
 
-  source-user0 : 128 ≤ b → b < 160 → cellSource shown (cellOf c b a) ≡ Block (shown .dor % 16)
-  source-user0 h l =
-      bichrome (omega arith)
-      ∙ ap (setSource shown) (sym (set-UserG0 (bits 4 4 b) (omega arith) (omega arith)))
-      ∙ ap Block (omega arith)
+  source-rom : (blocks : List ℕ) (part : Part) → b < 128 → oneIs blocks (sourceOf part) ≡ false
+  unfolding ef9345Set ts9347Set
+  source-rom blocks Ef9345 h =
+      ap (oneIs blocks) (of-set Ef9345 (omega arith))
+      ∙ agree-test (λ high. oneIs blocks (setSource shown (ef9345Set high))) (λ high. false) 8 tt (bits 4 4 b) (omega arith)
+  source-rom blocks Ts9347 h =
+      ap (oneIs blocks) (of-set Ts9347 (omega arith))
+      ∙ agree-test (λ low. oneIs blocks (setSource shown (ts9347Set low))) (λ low. false) 128 tt b h
 
-  source-user1 : 160 ≤ b → b < 192 → cellSource shown (cellOf c b a) ≡ Block (2 * (shown .dor / 16 % 8) + b / 16 % 2)
-  source-user1 h l =
-      let e : 2 * bits 4 3 (shown .dor) + bits 4 4 b % 2 % 2 ≡ 2 * (shown .dor / 16 % 8) + b / 16 % 2 = omega arith in
-      bichrome l ∙ ap (setSource shown) (sym (set-UserG1 (bits 4 4 b) (omega arith))) ∙ ap Block e
-
-  source-quad : 192 ≤ b → b < 256 → cellSource shown (cellOf c b a) ≡ Block (8 * (shown .dor / 128 % 2) + b / 8 % 8)
-  unfolding quadrichromeOf
-  source-quad h l =
-      let e : 8 * (shown .dor / 128 % 2) + bits 3 3 b % 8 ≡ 8 * (shown .dor / 128 % 2) + b / 8 % 8 = omega arith in
-      ap (cellSource shown) (sym (cell-quadrichrome c b a h l)) ∙ ap Block e
-
-  character : characterOf (cellOf c b a) ≡ c
-  unfolding cellOf bichromeOf quadrichromeOf
-  character = go (isQuadrichrome b)
+  source-user0 : (part : Part) → 128 ≤ b → b < 160 → sourceOf part ≡ Block (shown .dor % 16)
+  source-user0 part h l = of-set part (omega arith) ∙ ap (setSource shown) (sym (named part)) ∙ ap Block (omega arith)
     where
-      go : (q : Bool) → characterOf (pick q (Quadrichrome (quadrichromeOf c b a)) (Bichrome (bichromeOf c b a))) ≡ c
-      go true = refl
-      go false = refl
+      named : (part : Part) → UserG0 ≡ setOf part b
+      named Ef9345 = set-UserG0 (bits 4 4 b) (omega arith) (omega arith)
+      named Ts9347 = ts9347-UserG0 b h l
+
+  source-user1 : (part : Part) → 160 ≤ b → b < 192 → sourceOf part ≡ Block (2 * (shown .dor / 16 % 8) + b / 16 % 2)
+  source-user1 part h l =
+      let e : 2 * bits 4 3 (shown .dor) + b / 16 % 2 % 2 ≡ 2 * (shown .dor / 16 % 8) + b / 16 % 2 = omega arith in
+      of-set part l ∙ ap (setSource shown) (sym (named part)) ∙ ap Block e
+    where
+      named : (part : Part) → UserG1 (b / 16 % 2) ≡ setOf part b
+      named Ef9345 = let e : b / 16 % 2 ≡ bits 4 4 b % 2 = omega arith in ap UserG1 e ∙ set-UserG1 (bits 4 4 b) (omega arith)
+      named Ts9347 = ts9347-UserG1 b h l
+
+  -- quadrichrome of the one, of a set Q of the other: the same block
+  source-quad : (part : Part) → 192 ≤ b → sourceOf part ≡ Block (8 * (shown .dor / 128 % 2) + b / 8 % 8)
+  unfolding lastBichrome quadrichromeOf
+  source-quad Ef9345 h =
+      let e : 8 * (shown .dor / 128 % 2) + bits 3 3 b % 8 ≡ 8 * (shown .dor / 128 % 2) + b / 8 % 8 = omega arith in
+      ap (cellSource shown) (sym (cell-quadrichrome Ef9345 c b a small (omega arith))) ∙ ap Block e
+  source-quad Ts9347 h =
+      let e : 8 * (shown .dor / 128 % 2) + b / 8 % 8 % 8 ≡ 8 * (shown .dor / 128 % 2) + b / 8 % 8 = omega arith in
+      bichrome Ts9347 (omega arith) ∙ ap (setSource shown) (sym (ts9347-Q b h small)) ∙ ap Block e
+
+character : (part : Part) (c b a : ℕ) → characterOf (cellOf part c b a) ≡ c
+unfolding cellOf bichromeOf quadrichromeOf
+character part c b a = go (isQuadrichrome part b)
+  where
+    go : (q : Bool) → characterOf (pick q (Quadrichrome (quadrichromeOf c b a)) (Bichrome (bichromeOf part c b a))) ≡ c
+    go true = refl
+    go false = refl
 
 -- a key of 255 is met by no part of a byte
 key-met : (fits : Bool) (v key : ℕ) → v < 255 → eqb v (keyIf fits key) ≡ (fits && eqb v key)
@@ -167,7 +192,7 @@ module _ (shown : Shown) (blocks : List ℕ) (b : ℕ) (small : b < 256) where
       (eqb (b / 32) (keyIf (isOne blocks g0) 4) || (eqb (b / 16) (keyIf (isOne blocks g1) 10) || eqb (b / 16) (keyIf (isOne blocks (g1 + 1)) 11)))
       || (eqb (b / 8) (quadKey shown (getD blocks 0 0)) || (eqb (b / 8) (quadKey shown (getD blocks 1 0)) || eqb (b / 8) (quadKey shown (getD blocks 2 0))))
 
-  -- a bichrome cell meets no quadrichrome key; a quadrichrome cell that of its block
+  -- below 192 no key of a block is met; from there on that of its block
   no-quad : b < 192 → (z : ℕ) → eqb (b / 8) (quadKey shown z) ≡ false
   no-quad h z = unmet (eqb (shown .dor / 128 % 2) (z / 8)) (b / 8) (24 + z % 8) (omega arith) (λ e. omega arith)
 
@@ -178,54 +203,54 @@ module _ (shown : Shown) (blocks : List ℕ) (b : ℕ) (small : b < 256) where
 
   -- the keys are met exactly where the source is one of the blocks
   module _ (c a : ℕ) where
-    met-rom : b < 128 → met ≡ oneIs blocks (cellSource shown (cellOf c b a))
+    met-rom : b < 128 → met ≡ oneIs blocks (cellSource shown (cellOf (shown .part) c b a))
     met-rom l =
         six (unmet (isOne blocks g0) (b / 32) 4 (omega arith) (λ e. omega arith)) (unmet (isOne blocks g1) (b / 16) 10 (omega arith) (λ e. omega arith))
         (unmet (isOne blocks (g1 + 1)) (b / 16) 11 (omega arith) (λ e. omega arith)) (no-quad (omega arith) (getD blocks 0 0)) (no-quad (omega arith) (getD blocks 1 0)) (no-quad (omega arith) (getD blocks 2 0))
-        ∙ sym (source-rom shown c b a blocks l)
+        ∙ sym (source-rom shown c b a small blocks (shown .part) l)
 
-    met-user0 : 128 ≤ b → b < 160 → met ≡ oneIs blocks (cellSource shown (cellOf c b a))
+    met-user0 : 128 ≤ b → b < 160 → met ≡ oneIs blocks (cellSource shown (cellOf (shown .part) c b a))
     met-user0 h l =
         six (met-fit (isOne blocks g0) (b / 32) 4 (omega arith) (omega arith)) (unmet (isOne blocks g1) (b / 16) 10 (omega arith) (λ e. omega arith))
         (unmet (isOne blocks (g1 + 1)) (b / 16) 11 (omega arith) (λ e. omega arith)) (no-quad (omega arith) (getD blocks 0 0)) (no-quad (omega arith) (getD blocks 1 0)) (no-quad (omega arith) (getD blocks 2 0))
         ∙ first-met (isOne blocks g0)
-        ∙ sym (ap (oneIs blocks) (source-user0 shown c b a h l))
+        ∙ sym (ap (oneIs blocks) (source-user0 shown c b a small (shown .part) h l))
 
-    met-user10 : 160 ≤ b → b < 176 → met ≡ oneIs blocks (cellSource shown (cellOf c b a))
+    met-user10 : 160 ≤ b → b < 176 → met ≡ oneIs blocks (cellSource shown (cellOf (shown .part) c b a))
     met-user10 h l =
         let e : g1 ≡ 2 * (shown .dor / 16 % 8) + b / 16 % 2 = omega arith in
         six (unmet (isOne blocks g0) (b / 32) 4 (omega arith) (λ e. omega arith)) (met-fit (isOne blocks g1) (b / 16) 10 (omega arith) (omega arith))
         (unmet (isOne blocks (g1 + 1)) (b / 16) 11 (omega arith) (λ e. omega arith)) (no-quad (omega arith) (getD blocks 0 0)) (no-quad (omega arith) (getD blocks 1 0)) (no-quad (omega arith) (getD blocks 2 0))
         ∙ second-met (isOne blocks g1)
         ∙ ap (isOne blocks) e
-        ∙ sym (ap (oneIs blocks) (source-user1 shown c b a h (omega arith)))
+        ∙ sym (ap (oneIs blocks) (source-user1 shown c b a small (shown .part) h (omega arith)))
 
-    met-user11 : 176 ≤ b → b < 192 → met ≡ oneIs blocks (cellSource shown (cellOf c b a))
+    met-user11 : 176 ≤ b → b < 192 → met ≡ oneIs blocks (cellSource shown (cellOf (shown .part) c b a))
     met-user11 h l =
         let e : g1 + 1 ≡ 2 * (shown .dor / 16 % 8) + b / 16 % 2 = omega arith in
         six (unmet (isOne blocks g0) (b / 32) 4 (omega arith) (λ e. omega arith)) (unmet (isOne blocks g1) (b / 16) 10 (omega arith) (λ e. omega arith))
         (met-fit (isOne blocks (g1 + 1)) (b / 16) 11 (omega arith) (omega arith)) (no-quad (omega arith) (getD blocks 0 0)) (no-quad (omega arith) (getD blocks 1 0)) (no-quad (omega arith) (getD blocks 2 0))
         ∙ third-met (isOne blocks (g1 + 1))
         ∙ ap (isOne blocks) e
-        ∙ sym (ap (oneIs blocks) (source-user1 shown c b a (omega arith) l))
+        ∙ sym (ap (oneIs blocks) (source-user1 shown c b a small (shown .part) (omega arith) l))
 
-    met-quad : 192 ≤ b → met ≡ oneIs blocks (cellSource shown (cellOf c b a))
+    met-quad : 192 ≤ b → met ≡ oneIs blocks (cellSource shown (cellOf (shown .part) c b a))
     unfolding isOne
     met-quad h =
         six (unmet (isOne blocks g0) (b / 32) 4 (omega arith) (λ e. omega arith)) (unmet (isOne blocks g1) (b / 16) 10 (omega arith) (λ e. omega arith))
         (unmet (isOne blocks (g1 + 1)) (b / 16) 11 (omega arith) (λ e. omega arith)) (its-quad h (getD blocks 0 0)) (its-quad h (getD blocks 1 0)) (its-quad h (getD blocks 2 0))
-        ∙ sym (ap (oneIs blocks) (source-quad shown c b a h small))
+        ∙ sym (ap (oneIs blocks) (source-quad shown c b a small (shown .part) h))
 
-    pub block-met : met ≡ oneIs blocks (cellSource shown (cellOf c b a))
+    pub block-met : met ≡ oneIs blocks (cellSource shown (cellOf (shown .part) c b a))
     block-met =
         ⊎-elim met-rom
         (λ h1. ⊎-elim (met-user0 h1) (λ h2. ⊎-elim (met-user10 h2) (λ h3. ⊎-elim (met-user11 h3) met-quad (lt-or-le b 192)) (lt-or-le b 176)) (lt-or-le b 160))
         (lt-or-le b 128)
 
 -- a source is one of the blocks where it is some block
-some-source : (blocks : List ℕ) (s : Source) → Fitting s → someBlock (λ z. sourceIs z s) blocks ≡ oneIs blocks s
-some-source blocks (Rom set) l = some-none blocks
-some-source blocks (Block b) l = some-one blocks b (omega arith)
+some-source : (part : Part) (blocks : List ℕ) (s : Source) → Fitting part s → someBlock (λ z. sourceIs z s) blocks ≡ oneIs blocks s
+some-source part blocks (Rom set) l = some-none blocks
+some-source part blocks (Block b) l = some-one blocks b (omega arith)
 
 module _ (shown : Shown) (x y : ℕ) (page : onPage x y ≡ true) where
   source-holds : (z c : ℕ) (s : Source) → z < shown .blocks → sourceHolds (shown .blocks) (placeOf x y z) c s ≡ (eqb (c % 128) (y * 4 + x % 4) && sourceIs z s)
@@ -240,11 +265,11 @@ module _ (shown : Shown) (x y : ℕ) (page : onPage x y ≡ true) where
       let c = getD code 0 0 in
       let b = getD code 1 0 in
       let a = getD code 2 0 in
-      let s = cellSource shown (cellOf c b a) in
-      ap (λ (t : Bool). eqb (c % 128) (y * 4 + x % 4) && t) (block-met shown blocks b small c a ∙ sym (some-source blocks s (source-fitting shown (cellOf c b a))))
+      let s = cellSource shown (cellOf (shown .part) c b a) in
+      ap (λ (t : Bool). eqb (c % 128) (y * 4 + x % 4) && t) (block-met shown blocks b small c a ∙ sym (some-source (shown .part) blocks s (source-fitting shown (cellOf (shown .part) c b a))))
       ∙ sym (some-and blocks (eqb (c % 128) (y * 4 + x % 4)) (λ z. sourceIs z s))
       ∙ some-fitted blocks (shown .blocks) fitted _ _
-      (λ z l. sym (source-holds z c s l) ∙ ap (λ (n : ℕ). sourceHolds (shown .blocks) (placeOf x y z) n s) (sym (character shown c b a)))
+      (λ z l. sym (source-holds z c s l) ∙ ap (λ (n : ℕ). sourceHolds (shown .blocks) (placeOf x y z) n s) (sym (character (shown .part) c b a)))
 
 -- the keys that the code has
 pub keys-made :

@@ -28,9 +28,9 @@ pub page-y : (x y : ℕ) → onPage x y ≡ true → y < 32
 page-y x y e = ⊎-elim (λ r. omega arith) (λ r. omega arith) (page-row x y e)
 
 -- 255 is no block of the page
-pub no-code-block : (first : ℕ) → first < 16 → codeBlock first 255 ≡ false
+pub no-code-block : (first : ℕ) → first < 32 → codeBlock first 255 ≡ false
 unfolding codeBlock
-no-code-block = agree-test (λ first. codeBlock first 255) (λ first. false) 16 tt
+no-code-block = agree-test (λ first. codeBlock first 255) (λ first. false) 32 tt
 
 -- a place of the board
 module _ (x y z : ℕ) (page : onPage x y ≡ true) (shown : Shown) (fits : z < shown .blocks) (r : ℕ) where

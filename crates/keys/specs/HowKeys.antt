@@ -40,7 +40,7 @@ AllFitted board blocks =
 unfoldable pub someChanged : List ℕ → Bool
 someChanged blocks = not (eqb (getD blocks 0 0) 255) || (not (eqb (getD blocks 1 0) 255) || not (eqb (getD blocks 2 0) 255))
 
--- b / 8 of the B bytes of quadrichrome cells whose source is the block
+-- b / 8 of the B bytes of quadrichrome cells, or of Q cells, whose source is the block
 abbrev pub quadKey : Shown → ℕ → ℕ
 quadKey shown z = keyIf (eqb (shown .dor / 128 % 2) (z / 8)) (24 + z % 8)
 

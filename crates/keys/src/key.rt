@@ -8,7 +8,7 @@ use address::place::block;
 use shown::Shown;
 
 // The character; then b / 32, b / 16 and b / 8 of the B bytes whose source is one of the blocks: user G'0, user G'10 and G'11, and
-// quadrichrome in each block. 255 where no byte's is.
+// quadrichrome or Q in each block. 255 where no byte's is.
 pub struct Keys {
     pub character: u8,
     pub user0: u8,

@@ -13,6 +13,7 @@ use Rattle.basics.specs.Parts.{joined}
 use Rattle.basics.proofs.Choice.{pick-known}
 use Rattle.basics.proofs.Filled.{filled, length-filled}
 use Rattle.basics.proofs.Parts.{length-joined, joined-front, table-at, joined-same}
+use Rattle.board.specs.declared.Part.{Part}
 use Rattle.shown.specs.declared.Shown.{Shown}
 use Rattle.shown.specs.Lengths.{fortyBytes, lineBytes}
 use Rattle.cell.specs.declared.kind.Cell.{Cell}
@@ -32,9 +33,10 @@ use Rattle.columns.proofs.Steps.{steps-four, pairs-back}
 use Rattle.columns.proofs.Tens.{slice-small}
 
 -- a packed line of forty columns
-pub line-long : (cells : List (List ℕ)) (lowers : List Bool) (tens pairs : List ℕ) (n : ℕ) → length (lineOn cells lowers tens pairs n) ≡ lineBytes fortyBytes
+pub line-long :
+    (part : Part) (cells : List (List ℕ)) (lowers : List Bool) (tens pairs : List ℕ) (n : ℕ) → length (lineOn part cells lowers tens pairs n) ≡ lineBytes fortyBytes
 unfolding lineOn
-line-long cells lowers tens pairs n = columns-long fortyBytes _ (λ x l. four-long _ _)
+line-long part cells lowers tens pairs n = columns-long fortyBytes _ (λ x l. four-long _ _)
 
 -- a line of which 32 cells are packed
 module _ (bytes pairs line : List ℕ) (begun : line ≡ filled fortyBytes (fourOf bytes pairs) (replicate (lineBytes fortyBytes) 0) 32) where
@@ -55,10 +57,10 @@ module _ (bytes pairs line : List ℕ) (begun : line ≡ filled fortyBytes (four
 module _ (shown : Shown) (code : List ℕ) (lower right : Bool) (n s : ℕ) where
   -- the byte that the code chooses pairs by is the effective byte
   effective-byte :
-      linedByte code lower n (fromBits (takenBit (wideOf (decoded code)) right s) 8) ≡ effectiveOf (decoded code) right (sliceShown (decoded code) lower n) s
+      linedByte (shown .part) code lower n (fromBits (takenBit (wideOf (decoded (shown .part) code)) right s) 8) ≡ effectiveOf (decoded (shown .part) code) right (sliceShown (decoded (shown .part) code) lower n) s
   unfolding linedByte underlinedOn
   effective-byte =
-      let cell = decoded code in
+      let cell = decoded (shown .part) code in
       let number = sliceShown cell lower n in
       pick-known (λ (b : ℕ). b ≡ effectiveOf cell right number s) (underlineOf cell && eqb number 9) 255 _ (effective-lined cell right number s)
       (effective-taken cell right number s)
@@ -66,16 +68,16 @@ module _ (shown : Shown) (code : List ℕ) (lower right : Bool) (n s : ℕ) wher
   -- a cell's four bytes on line n
   drawn-cell :
       s < 256
-      → fourBy (linedByte code lower n (fromBits (takenBit (wideOf (decoded code)) right s) 8)) (cellPairs (decoded code) shown)
-      ≡ cellLine (decoded code) shown right (sliceShown (decoded code) lower n) s
+      → fourBy (linedByte (shown .part) code lower n (fromBits (takenBit (wideOf (decoded (shown .part) code)) right s) 8)) (cellPairs (decoded (shown .part) code) shown)
+      ≡ cellLine (decoded (shown .part) code) shown right (sliceShown (decoded (shown .part) code) lower n) s
   drawn-cell h =
-      ap (λ (b : ℕ). fourBy b (cellPairs (decoded code) shown)) effective-byte
-      ∙ pairs-line shown right (sliceShown (decoded code) lower n) s (decoded code) h
+      ap (λ (b : ℕ). fourBy b (cellPairs (decoded (shown .part) code) shown)) effective-byte
+      ∙ pairs-line shown right (sliceShown (decoded (shown .part) code) lower n) s (decoded (shown .part) code) h
 
 module _ (m rom : List ℕ) (shown : Shown) (cells : List (List ℕ)) (lowers rights : List Bool) where
   -- cell x, and the number of the slice that it shows on line n
   abbrev cellAt : ℕ → Cell
-  cellAt x = decoded (getD cells x [])
+  cellAt x = decoded (shown .part) (getD cells x [])
 
   abbrev numberAt : ℕ → ℕ → ℕ
   numberAt n x = sliceShown (cellAt x) (getD lowers x false) n
@@ -91,23 +93,23 @@ module _ (m rom : List ℕ) (shown : Shown) (cells : List (List ℕ)) (lowers ri
       -- the effective byte of cell x
       byte-is :
           (x : ℕ) → x < 40
-          → getD (bytesOn cells lowers tens n) x 0
-          ≡ linedByte (getD cells x []) (getD lowers x false) n (takenAt m rom shown (cellAt x) (getD lowers x false) (getD rights x false) n)
+          → getD (bytesOn (shown .part) cells lowers tens n) x 0
+          ≡ linedByte (shown .part) (getD cells x []) (getD lowers x false) n (takenAt m rom shown (cellAt x) (getD lowers x false) (getD rights x false) n)
       unfolding bytesOn tenOf
       byte-is x l =
-          table-at (byteOn cells lowers tens n) 40 x 0 l
-          ∙ ap (linedByte (getD cells x []) (getD lowers x false) n)
+          table-at (byteOn (shown .part) cells lowers tens n) 40 x 0 l
+          ∙ ap (linedByte (shown .part) (getD cells x []) (getD lowers x false) n)
           (ap (λ (z : List ℕ). byteIn z n x) is-tens
           ∙ side-at 10 (tenAt m rom shown cells lowers rights) n x h l
           ∙ table-at (takenAt m rom shown (cellAt x) (getD lowers x false) (getD rights x false)) 10 n 0 h)
 
-      drawn-at : (x : ℕ) → x < 40 → fourOf (bytesOn cells lowers tens n) pairs x ≡ pixelsOn n x
+      drawn-at : (x : ℕ) → x < 40 → fourOf (bytesOn (shown .part) cells lowers tens n) pairs x ≡ pixelsOn n x
       drawn-at x l =
           ap₂ fourBy (byte-is x l)
           (ap fromSteps (side-column (pairsAt cells shown) pairs x is-pairs (steps-four (cellPairs (cellAt x) shown)) l) ∙ pairs-back (cellAt x) shown)
           ∙ drawn-cell shown (getD cells x []) (getD lowers x false) (getD rights x false) n _
           (slice-small m rom m-small rom-small shown (cellAt x) (numberAt n x))
 
-      pub drawn-line : lineOn cells lowers tens pairs n ≡ joined (pixelsOn n) 40
+      pub drawn-line : lineOn (shown .part) cells lowers tens pairs n ≡ joined (pixelsOn n) 40
       unfolding lineOn
       drawn-line = joined-same _ _ 40 drawn-at

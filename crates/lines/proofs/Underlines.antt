@@ -13,6 +13,7 @@ use Rattle.basics.specs.Choice.{pick}
 use Rattle.basics.specs.Parts.{table}
 use Rattle.basics.proofs.Choice.{bool-cases, and-left}
 use Rattle.basics.proofs.Parts.{table-at, table-same}
+use Rattle.board.specs.declared.Part.{Part}
 use Rattle.cell.specs.declared.kind.BichromeCell.{BichromeCell}
 use Rattle.cell.specs.declared.kind.Cell.the-variants.{Bichrome, Quadrichrome}
 use Rattle.cell.specs.Cells.{alphanumericOf, bichromeOf, quadrichromeOf, isQuadrichrome, cellOf}
@@ -44,29 +45,29 @@ bichrome-early b only lower n l =
     (λ u. ap (λ (t : Bool). t && eqb (bichromeSlice b lower n) 9) u)
     (bool-cases (b .underline))
 
-cell-early : (c b a : ℕ) (lower : Bool) (n : ℕ) → n < 9 → underlinedOn (cellOf c b a) lower n ≡ false
+cell-early : (part : Part) (c b a : ℕ) (lower : Bool) (n : ℕ) → n < 9 → underlinedOn (cellOf part c b a) lower n ≡ false
 unfolding underlinedOn cellOf bichromeOf
-cell-early c b a lower n l = go (isQuadrichrome b)
+cell-early part c b a lower n l = go (isQuadrichrome part b)
   where
-    go : (q : Bool) → underlinedOn (pick q (Quadrichrome (quadrichromeOf c b a)) (Bichrome (bichromeOf c b a))) lower n ≡ false
+    go : (q : Bool) → underlinedOn (pick q (Quadrichrome (quadrichromeOf c b a)) (Bichrome (bichromeOf part c b a))) lower n ≡ false
     go true = refl
-    go false = bichrome-early (bichromeOf c b a) (λ u. and-left _ _ u) lower n l
+    go false = bichrome-early (bichromeOf part c b a) (λ u. and-left _ _ u) lower n l
 
-module _ (cells : List (List ℕ)) (lowers : List Bool) (tens : List ℕ) (n : ℕ) (plain : List ℕ) (is-plain : plain ≡ table (byteIn tens n) 40) where
+module _ (part : Part) (cells : List (List ℕ)) (lowers : List Bool) (tens : List ℕ) (n : ℕ) (plain : List ℕ) (is-plain : plain ≡ table (byteIn tens n) 40) where
   -- the cells are asked
-  pub bytes-lined : (k : ℕ) → n ≡ k → table (linedOn cells lowers plain k) 40 ≡ bytesOn cells lowers tens n
+  pub bytes-lined : (k : ℕ) → n ≡ k → table (linedOn part cells lowers plain k) 40 ≡ bytesOn part cells lowers tens n
   unfolding bytesOn
   bytes-lined k e =
       table-same _ _ 40
       (λ x l.
-      ap₂ (linedByte (getD cells x []) (getD lowers x false)) (sym e) (ap (λ (z : List ℕ). getD z x 0) is-plain ∙ table-at (byteIn tens n) 40 x 0 l))
+      ap₂ (linedByte part (getD cells x []) (getD lowers x false)) (sym e) (ap (λ (z : List ℕ). getD z x 0) is-plain ∙ table-at (byteIn tens n) 40 x 0 l))
 
   -- none is underlined
-  pub bytes-plain : n < 9 → plain ≡ bytesOn cells lowers tens n
+  pub bytes-plain : n < 9 → plain ≡ bytesOn part cells lowers tens n
   unfolding bytesOn linedByte
   bytes-plain h =
       is-plain
       ∙ table-same _ _ 40
       (λ x l.
       let code = getD cells x [] in
-      sym (ap (λ (t : Bool). pick t 255 (byteIn tens n x)) (cell-early (getD code 0 0) (getD code 1 0) (getD code 2 0) (getD lowers x false) n h)))
+      sym (ap (λ (t : Bool). pick t 255 (byteIn tens n x)) (cell-early part (getD code 0 0) (getD code 1 0) (getD code 2 0) (getD lowers x false) n h)))

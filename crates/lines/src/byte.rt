@@ -4,28 +4,35 @@ ghost use Prim.Native.Nat.{_<_};
 ghost use Rattle.basics.specs.Parts.{table};
 ghost use Rattle.columns.specs.HowColumns.{byteIn};
 ghost use Rattle.lines.specs.HowLines.{linedByte, linedOn, bytesOn};
+use board::Part;
 use cell::decode::decode;
 use pixels::height::is_underlined_on;
 
 // A byte of line n, underlined where it is.
-pub fn lined(code: [u8; 3], lower: bool, n: u8, byte: u8) -> u8
+pub fn lined(part: Part, code: [u8; 3], lower: bool, n: u8, byte: u8) -> u8
     requires { ⌜ n < 10 ⌝ }
-    ensures { λ r. ⌜ r ≡ linedByte code lower n byte ⌝ }
+    ensures { λ r. ⌜ r ≡ linedByte part code lower n byte ⌝ }
 {
-    if is_underlined_on(decode(code), lower, n) {
+    if is_underlined_on(decode(part, code), lower, n) {
         return 255;
     }
     byte
 }
 
 // The bytes of line n, underlined where they are.
-fn underlined(cells: [[u8; 3]; 40], lowers: [bool; 40], plain: [u8; 40], n: u8) -> [u8; 40]
+fn underlined(
+    part: Part,
+    cells: [[u8; 3]; 40],
+    lowers: [bool; 40],
+    plain: [u8; 40],
+    n: u8,
+) -> [u8; 40]
     requires { ⌜ n < 10 ⌝ }
-    ensures { λ r. ⌜ r ≡ table (linedOn cells lowers plain n) 40 ⌝ }
+    ensures { λ r. ⌜ r ≡ table (linedOn part cells lowers plain n) 40 ⌝ }
 {
     let mut bytes = [0u8; 40];
     for x in 0..40 {
-        bytes[x] = lined(cells[x], lowers[x], n, plain[x]);
+        bytes[x] = lined(part, cells[x], lowers[x], n, plain[x]);
     }
     bytes
 }
@@ -43,13 +50,19 @@ fn plain_bytes(tens: &[u8; 400], n: usize) -> [u8; 40]
 }
 
 // The byte of each cell of line n. A cell that is underlined shows slice 9 on its last line alone, so that no other line is asked.
-pub fn line_bytes(cells: [[u8; 3]; 40], lowers: [bool; 40], tens: &[u8; 400], n: usize) -> [u8; 40]
+pub fn line_bytes(
+    part: Part,
+    cells: [[u8; 3]; 40],
+    lowers: [bool; 40],
+    tens: &[u8; 400],
+    n: usize,
+) -> [u8; 40]
     requires { ⌜ n < 10 ⌝ }
-    ensures { λ r. ⌜ r ≡ bytesOn cells lowers (now (tens .entry)) n ⌝ }
+    ensures { λ r. ⌜ r ≡ bytesOn part cells lowers (now (tens .entry)) n ⌝ }
 {
     let plain = plain_bytes(tens, n);
     if n == 9 {
-        return underlined(cells, lowers, plain, 9);
+        return underlined(part, cells, lowers, plain, 9);
     }
     plain
 }

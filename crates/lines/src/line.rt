@@ -4,9 +4,11 @@ ghost use Prim.Native.Nat.{_<_};
 ghost use Rattle.lines.specs.HowLines.{lineOn};
 use crate::byte::line_bytes;
 use crate::pack::packed_line;
+use board::Part;
 
 // Line n of a row, from its row buffer and what was worked out once for its ten lines.
 pub fn line(
+    part: Part,
     cells: [[u8; 3]; 40],
     lowers: [bool; 40],
     tens: &[u8; 400],
@@ -14,7 +16,7 @@ pub fn line(
     n: usize,
 ) -> [u8; 160]
     requires { ⌜ n < 10 ⌝ }
-    ensures { λ r. ⌜ r ≡ lineOn cells lowers (now (tens .entry)) (now (pairs .entry)) n ⌝ }
+    ensures { λ r. ⌜ r ≡ lineOn part cells lowers (now (tens .entry)) (now (pairs .entry)) n ⌝ }
 {
-    packed_line(line_bytes(cells, lowers, tens, n), pairs)
+    packed_line(line_bytes(part, cells, lowers, tens, n), pairs)
 }

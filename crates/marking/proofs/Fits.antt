@@ -5,7 +5,7 @@ use mathlib.Core.Path.{_≡_, sym, _∙_}
 use mathlib.Core.Bool.{Bool, true}
 use mathlib.Core.List.{List}
 use lib.ListN.{length}
-use Rattle.address.specs.Boards.{bytesOf}
+use Rattle.board.specs.Boards.{bytesOf}
 use Rattle.shown.specs.declared.Shown.{Shown}
 use Rattle.shown.specs.Origins.{firstBlock}
 use Rattle.page.specs.HowCodes.{isFitted, Has}

@@ -9,20 +9,21 @@ use native.Mathlib.Omega.{arith}
 use lib.Dec.{eqb}
 use lib.ListN.{length, getD}
 use Rattle.basics.proofs.Below.{any-same, any-never}
-use Rattle.address.specs.Boards.{bytesOf}
+use Rattle.board.specs.Boards.{bytesOf}
+use Rattle.board.specs.declared.Part.{Part}
+use Rattle.board.specs.declared.Part.the-variants.{Ef9345, Ts9347}
 use Rattle.address.specs.Triples.{onPage}
 use Rattle.address.specs.Places.{placeOf, blockOf}
 use Rattle.address.specs.Rows.{rowY}
 use Rattle.address.proofs.Laws.{y-facts, facts-y, page-row, facts-page, row-legal}
 use Rattle.shown.specs.declared.Shown.{Shown}
 use Rattle.shown.specs.Modes.{isEighty}
-use Rattle.shown.specs.Origins.{yorOf, firstBlock}
+use Rattle.shown.specs.Origins.{yorOf, highestBit, firstBlock}
 use Rattle.page.specs.Codes.{codeAt}
 use Rattle.page.specs.HowCodes.{codeOf, isFitted}
 use Rattle.page.specs.Halves.{isTall}
 use Rattle.page.specs.Marks.{markedToo}
 use Rattle.page.proofs.Codes.{code-kept, bare-block, bare-byte}
-use Rattle.page.proofs.Stretches.{tall-test}
 use Rattle.keys.specs.declared.key.Keys.{Keys}
 use Rattle.reading.specs.Lists.{rowHolds, cellHolds, slicesHold, hasTall, aboveHolds, onList}
 use Rattle.keys.specs.HowKeys.{AllFitted, someBlock, keysOf, isSource, rowAt, codeBlock, someCodeBlock}
@@ -48,10 +49,20 @@ block-first : (code own tall falls : Bool) → ((code && own) || (tall && (code 
 block-first true own tall falls = refl
 block-first false own tall falls = and-false tall
 
+-- the page's first block is one of 32, of either part
+first-small : (shown : Shown) → firstBlock shown < 32
+first-small shown = let h = high (shown .part) in omega arith
+  where
+    high : (part : Part) → highestBit part (shown .dor) < 2
+    high Ef9345 = omega arith
+    high Ts9347 = omega arith
+
 -- a cell whose B is 0 is not of double height, and has its slices from the ROM
 module _ (code : List ℕ) (none : getD code 1 0 ≡ 0) where
-  bare-tall : isTall code ≡ false
-  bare-tall = sym (tall-test code 0 (omega arith) (sym none))
+  bare-tall : (part : Part) → isTall part code ≡ false
+  unfolding isTall
+  bare-tall Ef9345 = rw none
+  bare-tall Ts9347 = rw none
 
   bare-character : (t : ℕ) → showsCharacter t code ≡ false
   unfolding showsCharacter
@@ -62,7 +73,7 @@ module _ (shown : Shown) (m : List ℕ) (whole : length m ≡ bytesOf (shown .bl
   first = firstBlock shown
 
   abbrev tall : ℕ → Bool
-  tall r = tallAt m first (rowY (yorOf shown) r)
+  tall r = tallAt (shown .part) m first (rowY (yorOf shown) r)
 
   abbrev falls : ℕ → Bool
   falls = fallsTo tall (rowAt (yorOf shown) y)
@@ -81,7 +92,7 @@ module _ (shown : Shown) (m : List ℕ) (whole : length m ≡ bytesOf (shown .bl
   -- the rows of double height, by the bytes that memory has
   tall-kept : (r : ℕ) → hasTall shown m r ≡ tall r
   unfolding hasTall
-  tall-kept r = any-same _ _ 40 (λ i l. ap isTall (code-kept shown m whole r i l))
+  tall-kept r = any-same _ _ 40 (λ i l. ap (isTall (shown .part)) (code-kept shown m whole r i l))
 
   -- or of a row above
   reached : (z r : ℕ) → z < shown .blocks → r < 25 → (rowHolds shown (placeOf x y z) r || aboveHolds shown m (placeOf x y z) r) ≡ (codeBlock first z && falls r)
@@ -97,7 +108,7 @@ module _ (shown : Shown) (m : List ℕ) (whole : length m ≡ bytesOf (shown .bl
     unfolding someCodeBlock
     some-reached true =
         some-same blocks (λ z. codeBlock first z && true) (codeBlock first) (λ z. and-true (codeBlock first z))
-        ∙ some-each blocks (codeBlock first) (no-code-block first (omega arith))
+        ∙ some-each blocks (codeBlock first) (no-code-block first (first-small shown))
         ∙ sym (and-true (codeBlock first (getD blocks 0 0) || (codeBlock first (getD blocks 1 0) || codeBlock first (getD blocks 2 0))))
     some-reached false =
         some-same blocks (λ z. codeBlock first z && false) (λ z. false) (λ z. and-false (codeBlock first z))
@@ -156,7 +167,7 @@ module _ (shown : Shown) (m : List ℕ) (whole : length m ≡ bytesOf (shown .bl
             bare-byte m first row i 1 (facts-page i row l (y-facts row (row-legal (yorOf shown) r))) (bare-block shown m whole 1 bare)
 
         no-tall : (r : ℕ) → tall r ≡ false
-        no-tall r = any-never _ 40 (λ i l. bare-tall _ (no-b r i l))
+        no-tall r = any-never _ 40 (λ i l. bare-tall _ (no-b r i l) (shown .part))
 
         no-keyed : (r : ℕ) → keyedAt (keysOf shown x y blocks) m first (rowY (yorOf shown) r) ≡ false
         no-keyed r =
@@ -181,7 +192,7 @@ module _ (shown : Shown) (m : List ℕ) (whole : length m ≡ bytesOf (shown .bl
       module _
           (z yor : ℕ) (keys : Keys) (ez : z ≡ firstBlock shown) (eo : yor ≡ yorOf shown) (ek : keys ≡ keysOf shown x y blocks)
           (marks between : List Bool)
-          (d : between ≡ markedToo (λ r. someCodeBlock z blocks && fallsTo (λ i. tallAt m z (rowY yor i)) (rowAt yor y) r) marks)
+          (d : between ≡ markedToo (λ r. someCodeBlock z blocks && fallsTo (λ i. tallAt (shown .part) m z (rowY yor i)) (rowAt yor y) r) marks)
         where
           pub list-asked : (after : List Bool) → after ≡ markedToo (λ r. keyedAt keys m z (rowY yor r)) between → after ≡ markedToo (someOnList shown m x y blocks) marks
           list-asked after e =

@@ -5,7 +5,7 @@ ghost use mathlib.Core.Bool.{true, _&&_};
 ghost use Prim.Native.Nat.{_+_, _<_, _≤_};
 ghost use lib.Dec.{eqb};
 ghost use lib.ListN.{length};
-ghost use Rattle.address.specs.Boards.{bytesOf};
+ghost use Rattle.board.specs.Boards.{bytesOf};
 ghost use Rattle.address.specs.Triples.{onPage};
 ghost use Rattle.address.specs.Rows.{rowY};
 ghost use Rattle.page.specs.HowCodes.{Has};
@@ -18,6 +18,7 @@ use asking::row::has_tall;
 use asking::row::is_marked_or_keyed;
 use asking::row::near_has;
 use asking::row::service_has;
+use board::Part;
 use keys::key::Keys;
 use keys::key::is_source;
 use keys::key::keys_of;
@@ -27,15 +28,15 @@ use page::code::is_fitted;
 use shown::Shown;
 
 // The row that has the byte among its own, and those below it down to the first without a cell of double height.
-fn reach(marks: &mut [bool; 25], memory: &[u8], z: u8, yor: u8, row: u8)
+fn reach(marks: &mut [bool; 25], part: Part, memory: &[u8], z: u8, yor: u8, row: u8)
     requires { ⌜ (length (now marks) ≡ 25) × Has (now memory) z 1 × (row < 25) ⌝ }
-    ensures { λ _. ⌜ now (marks .exit) ≡ markedToo (fallsTo (λ r. tallAt (now (memory .entry)) z (rowY yor r)) row) (now (marks .entry)) ⌝ }
+    ensures { λ _. ⌜ now (marks .exit) ≡ markedToo (fallsTo (λ r. tallAt part (now (memory .entry)) z (rowY yor r)) row) (now (marks .entry)) ⌝ }
 {
     let mut r = row as usize;
     marks[r] = true;
     r += 1;
     while r < 25 {
-        if !has_tall(memory, z, row_y(yor, r as u8)) {
+        if !has_tall(part, memory, z, row_y(yor, r as u8)) {
             return;
         }
         marks[r] = true;
@@ -54,12 +55,20 @@ fn own_row(marks: &mut [bool; 25], z: u8, yor: u8, y: u8, blocks: [u8; 3])
 }
 
 // The rows that read a byte at Y in one of the blocks as one of their own, or of a row above.
-fn own_marks(marks: &mut [bool; 25], memory: &[u8], z: u8, yor: u8, y: u8, blocks: [u8; 3])
+fn own_marks(
+    marks: &mut [bool; 25],
+    part: Part,
+    memory: &[u8],
+    z: u8,
+    yor: u8,
+    y: u8,
+    blocks: [u8; 3],
+)
     requires { ⌜ (length (now marks) ≡ 25) × Has (now memory) z 1 ⌝ }
-    ensures { λ _. ⌜ now (marks .exit) ≡ markedToo (λ r. someCodeBlock z blocks && fallsTo (λ i. tallAt (now (memory .entry)) z (rowY yor i)) (rowAt yor y) r) (now (marks .entry)) ⌝ }
+    ensures { λ _. ⌜ now (marks .exit) ≡ markedToo (λ r. someCodeBlock z blocks && fallsTo (λ i. tallAt part (now (memory .entry)) z (rowY yor i)) (rowAt yor y) r) (now (marks .entry)) ⌝ }
 {
     if some_code_block(z, blocks) {
-        reach(marks, memory, z, yor, row_at(yor, y));
+        reach(marks, part, memory, z, yor, row_at(yor, y));
     }
 }
 
@@ -124,7 +133,8 @@ pub fn list_marks(
         own_row(marks, z, yor, y, blocks);
         return;
     }
-    own_marks(marks, memory, z, yor, y, blocks);
+    let part = shown.part;
+    own_marks(marks, part, memory, z, yor, y, blocks);
     let keys = keys_of(shown, x, y, blocks);
     if is_source(keys) {
         slice_marks(marks, memory, z, yor, keys);

@@ -4,7 +4,7 @@ ghost use mathlib.Core.Bool.{true};
 ghost use Prim.Native.Nat.{_+_, _*_, _<_};
 ghost use lib.ListN.{length};
 ghost use Rattle.basics.specs.Below.{anyBelow};
-ghost use Rattle.address.specs.Boards.{bytesOf};
+ghost use Rattle.board.specs.Boards.{bytesOf};
 ghost use Rattle.address.specs.Narrow.{attributesAt};
 ghost use Rattle.address.specs.Triples.{legalIn, onPage};
 ghost use Rattle.address.specs.Places.{placeOf, blockAt};

@@ -1,10 +1,9 @@
 // The ten bytes of a character of G0.
 ghost use mathlib.Core.Path.{_≡_};
 ghost use lib.ListN.{length, getD};
-ghost use Prim.Native.Nat.{_<_, _%_};
+ghost use Prim.Native.Nat.{_<_, _≤_, _%_};
 ghost use lib.Dec.{eqb};
 ghost use Rattle.basics.specs.Parts.{table};
-ghost use Rattle.shown.specs.Lengths.{romBytes};
 ghost use Rattle.narrow.specs.HowTens.{shadedOf, narrowTen};
 ghost use Rattle.narrow.specs.HowText.{hidden};
 use crate::pair::Narrow;
@@ -46,7 +45,7 @@ fn is_hidden(shown: Shown, cell: Narrow) -> bool
 }
 
 pub fn text_ten(rom: &[u8], shown: Shown, cell: Narrow) -> [u8; 10]
-    requires { ⌜ (length (now rom) ≡ romBytes) × (cell .character < 128) ⌝ }
+    requires { ⌜ (1280 ≤ length (now rom)) × (cell .character < 128) ⌝ }
     ensures { λ r. ⌜ r ≡ narrowTen (now (rom .entry)) shown cell ⌝ }
 {
     let negative = cell.attributes / 8 % 2 == 1;

@@ -1,32 +1,52 @@
 -- Laws of the byte that stands for a board.
 -- Assumes nothing.
-use Prim.Native.Nat.{ℕ}
-use mathlib.Core.Path.{_≡_, refl, sym}
-use mathlib.Core.Bool.{true, false, _||_}
+use Prim.Native.Nat.{ℕ, _%_}
+use mathlib.Core.Path.{_≡_, refl, ap, _∙_}
+use mathlib.Core.Bool.{true, _||_}
+use mathlib.Core.List.{List, [], _∷_}
 use mathlib.Core.Logic.{⊎-elim}
+use native.Mathlib.Omega.{arith}
 use lib.Dec.{eqb}
+use lib.ListN.{getD}
 use borrow.Author.Tests.{eqb-true}
-use Rattle.basics.proofs.Choice.{or-cases, or-none, or-neither, pick-known}
-use Rattle.address.specs.Boards.{isBoard, fullBoard}
-use Rattle.packing.specs.Layouts.{boardByte, boardOf}
+use Rattle.basics.specs.Choice.{pick}
+use Rattle.basics.proofs.Choice.{or-cases}
+use Rattle.basics.proofs.Computed.{agree, agree-test}
+use Rattle.board.specs.Boards.{isBoard, fullBoard}
+use Rattle.board.specs.declared.Part.{Part}
+use Rattle.board.specs.declared.Part.the-variants.{Ef9345, Ts9347}
+use Rattle.packing.specs.Layouts.{boardByte, partOfByte, blocksOfByte}
 
--- a board's byte stands for it
-pub board-back : (blocks : ℕ) → isBoard blocks ≡ true → boardOf (boardByte blocks) ≡ blocks
-board-back blocks b =
-    ⊎-elim (λ e. rw (eqb-true blocks 2 e))
-    (λ t.
-    ⊎-elim (λ e. rw (eqb-true blocks 8 e)) (λ e. rw (eqb-true blocks 16 e)) (or-cases (eqb blocks 8) (eqb blocks 16) t))
-    (or-cases (eqb blocks 2) _ b)
+-- one of three numbers
+one-of-three : (P : ℕ → Type 0) (x y z n : ℕ) → P x → P y → P z → (eqb n x || (eqb n y || eqb n z)) ≡ true → P n
+one-of-three P x y z n px py pz t =
+    ⊎-elim (λ e. rw (eqb-true n x e) px)
+    (λ u. ⊎-elim (λ e. rw (eqb-true n y e) py) (λ e. rw (eqb-true n z e) pz) (or-cases (eqb n y) (eqb n z) u))
+    (or-cases (eqb n x) _ t)
+
+-- a board's byte stands for its part and for its blocks
+pub part-back : (part : Part) (blocks : ℕ) → isBoard part blocks ≡ true → partOfByte (boardByte blocks) ≡ part
+part-back Ef9345 blocks b = one-of-three (λ n. partOfByte (boardByte n) ≡ Ef9345) 2 8 16 blocks refl refl refl b
+part-back Ts9347 blocks b = rw (eqb-true blocks 32 b)
+
+pub blocks-back : (part : Part) (blocks : ℕ) → isBoard part blocks ≡ true → blocksOfByte (boardByte blocks) ≡ blocks
+blocks-back Ef9345 blocks b = one-of-three (λ n. blocksOfByte (boardByte n) ≡ n) 2 8 16 blocks refl refl refl b
+blocks-back Ts9347 blocks b = rw (eqb-true blocks 32 b)
+
+-- by the four bits
+abbrev partAt : ℕ → Part
+partAt k = pick (eqb k 4) Ts9347 Ef9345
+
+abbrev blocksAt : ℕ → ℕ
+blocksAt k = pick (eqb k 4) 32 (pick (isBoard Ef9345 k) k fullBoard)
 
 -- every byte stands for a board
-pub board-named : (b : ℕ) → isBoard (boardOf b) ≡ true
-board-named b = pick-known (λ (n : ℕ). isBoard n ≡ true) (isBoard b) b fullBoard (λ e. e) (λ e. refl)
+pub board-named : (b : ℕ) → isBoard (partOfByte b) (blocksOfByte b) ≡ true
+board-named b = agree-test (λ k. isBoard (partAt k) (blocksAt k)) (λ k. true) 16 tt (b % 16) (omega arith)
 
--- 2 and 8 for themselves, and any other for 16 blocks
-pub board-less : (b : ℕ) → (eqb b 2 || eqb b 8) ≡ true → b ≡ boardOf b
-board-less b t = ⊎-elim (λ e. rw (eqb-true b 2 e)) (λ e. rw (eqb-true b 8 e)) (or-cases (eqb b 2) _ t)
+-- the code's table has its blocks
+abbrev listed : List ℕ
+listed = 16 ∷ 16 ∷ 2 ∷ 16 ∷ 32 ∷ 16 ∷ 16 ∷ 16 ∷ 8 ∷ 16 ∷ 16 ∷ 16 ∷ 16 ∷ 16 ∷ 16 ∷ 16 ∷ []
 
-pub board-full : (b : ℕ) → (eqb b 2 || eqb b 8) ≡ false → fullBoard ≡ boardOf b
-board-full b f =
-    rw (or-neither (eqb b 2) _ f, or-none (eqb b 2) _ f)
-    (pick-known (λ (n : ℕ). fullBoard ≡ n) (eqb b 16) b fullBoard (λ e. sym (eqb-true b 16 e)) (λ e. refl))
+pub blocks-listed : (b i : ℕ) → i ≡ b % 16 → getD listed i 0 ≡ blocksOfByte b
+blocks-listed b i e = ap (λ (k : ℕ). getD listed k 0) e ∙ agree (λ k. getD listed k 0) blocksAt 16 tt (b % 16) (omega arith)

@@ -8,9 +8,11 @@ use native.Mathlib.Omega.{arith}
 use lib.ListN.{length, getD, take, drop, replicate, length-append, length-map}
 use lib.Seq.{paste}
 use Rattle.basics.specs.Choice.{oneIf}
+use Rattle.board.specs.Boards.{partNumber}
+use Rattle.board.specs.declared.Part.{Part}
 use Rattle.processor.specs.declared.state.Processor.{Processor}
 use Rattle.processor.specs.States.{registerOf, statusOf, shownOf}
-use Rattle.packing.specs.Layouts.{unpacked, isOn, boardOf}
+use Rattle.packing.specs.Layouts.{unpacked, isOn, partOfByte, blocksOfByte}
 use Rattle.packing.specs.Reports.{reported, registersShown, drawnBy}
 use Rattle.packing.proofs.Parts.{put-middle}
 
@@ -43,24 +45,25 @@ packed-parts p m a n x y z b1 b2 b3 lr li lm em ea en e1 e2 e3 =
 
 -- the parts that are taken out, with the three bytes between them and the board's
 pub unpacked-parts :
-    (bytes r i : List ℕ) (marks : List Bool) (blocks : ℕ) → r ≡ take 8 bytes → i ≡ take 8 (drop 8 bytes) → marks ≡ map isOn (take 25 (drop 19 bytes)) → blocks ≡ boardOf (getD bytes 44 0)
-    → record { registers = r; indirect = i; lxm = isOn (getD bytes 16 0); lxa = isOn (getD bytes 17 0); phase = getD bytes 18 0; marks = marks; blocks = blocks }
+    (bytes r i : List ℕ) (marks : List Bool) (blocks : ℕ) (part : Part) → r ≡ take 8 bytes → i ≡ take 8 (drop 8 bytes) → marks ≡ map isOn (take 25 (drop 19 bytes)) → blocks ≡ blocksOfByte (getD bytes 44 0)
+    → part ≡ partOfByte (getD bytes 44 0)
+    → record { registers = r; indirect = i; lxm = isOn (getD bytes 16 0); lxa = isOn (getD bytes 17 0); phase = getD bytes 18 0; marks = marks; blocks = blocks; part = part }
     ≡ unpacked bytes
 unfolding unpacked
-unpacked-parts bytes r i marks blocks er ei em eb = rw (er, ei, em, eb)
+unpacked-parts bytes r i marks blocks part er ei em eb ep = rw (er, ei, em, eb, ep)
 
 -- what is shown before the marks, then the marks
 pub reported-parts :
-    (p : Processor) (s : ℕ) (b : List ℕ) → length (p .marks) ≡ 25 → s ≡ statusOf p
+    (p : Processor) (s n : ℕ) (b : List ℕ) → length (p .marks) ≡ 25 → s ≡ statusOf p → n ≡ partNumber (p .part)
     → b
     ≡ paste
     (registerOf p 1 ∷ registerOf p 2 ∷ registerOf p 3 ∷ registerOf p 4 ∷ registerOf p 5 ∷ registerOf p 6 ∷ registerOf p 7 ∷ registerOf p 0 ∷ s
-    ∷ shownOf p .tgs ∷ shownOf p .mat ∷ shownOf p .pat ∷ shownOf p .dor ∷ shownOf p .ror ∷ shownOf p .phase ∷ (replicate 26 0 ++ (p .blocks ∷ replicate 6 0)))
+    ∷ shownOf p .tgs ∷ shownOf p .mat ∷ shownOf p .pat ∷ shownOf p .dor ∷ shownOf p .ror ∷ shownOf p .phase ∷ (replicate 25 0 ++ (n ∷ p .blocks ∷ replicate 6 0)))
     15 (map oneIf (p .marks)) 25
     → b ≡ reported p
 unfolding reported
-reported-parts p s b lm es e =
+reported-parts p s n b lm es en e =
     e
-    ∙ rw es
-    (put-middle (registersShown p ++ drawnBy (shownOf p)) (replicate 25 0) (0 ∷ p .blocks ∷ replicate 6 0) (map oneIf (p .marks)) 15 25
+    ∙ rw (es, en)
+    (put-middle (registersShown p ++ drawnBy (shownOf p)) (replicate 25 0) (partNumber (p .part) ∷ p .blocks ∷ replicate 6 0) (map oneIf (p .marks)) 15 25
     refl refl (length-map (p .marks) oneIf ∙ lm))

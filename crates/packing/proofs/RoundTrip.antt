@@ -8,11 +8,11 @@ use native.Mathlib.Omega.{arith}
 use lib.ListN.{length, getD, take, drop, length-append, length-map}
 use lib.Seq.{getD-at, take-at, drop-at, drop-drop, getD-drop}
 use Rattle.basics.specs.Choice.{oneIf}
-use Rattle.address.specs.Boards.{isBoard}
+use Rattle.board.specs.Boards.{isBoard}
 use Rattle.processor.specs.declared.state.Processor.{Processor}
 use Rattle.processor.specs.Sizes.{Sized}
-use Rattle.packing.specs.Layouts.{packed, unpacked, isOn, boardOf}
-use Rattle.packing.proofs.Boards.{board-back, board-named}
+use Rattle.packing.specs.Layouts.{packed, unpacked, isOn, partOfByte, blocksOfByte}
+use Rattle.packing.proofs.Boards.{part-back, blocks-back, board-named}
 use Rattle.packing.proofs.Parts.{length-part, length-marks}
 
 -- marks as bytes and back
@@ -61,21 +61,21 @@ module _ (r i : List ℕ) (x y z : ℕ) (marks : List ℕ) (n : ℕ) (rest : Lis
   -- unpacked
   made :
       unpacked whole
-      ≡ record { registers = r; indirect = i; lxm = isOn x; lxa = isOn y; phase = z; marks = map isOn marks; blocks = boardOf n }
+      ≡ record { registers = r; indirect = i; lxm = isOn x; lxa = isOn y; phase = z; marks = map isOn marks; blocks = blocksOfByte n; part = partOfByte n }
   unfolding unpacked
   made = rw (first-part, second-part, at-place 0, at-place 1, at-place 2, last-part, board-place)
 
 -- every processor of a board comes back as it was
-pub unpacked-packed : (p : Processor) → Sized p → isBoard (p .blocks) ≡ true → unpacked (packed p) ≡ p
+pub unpacked-packed : (p : Processor) → Sized p → isBoard (p .part) (p .blocks) ≡ true → unpacked (packed p) ≡ p
 unfolding packed
 unpacked-packed p s b =
-    rw (made _ _ _ _ _ _ _ _ (s .0) (s .1) (length-map (p .marks) oneIf ∙ s .2)) (simp (on-flag, on-one, board-back (p .blocks) b))
+    rw (made _ _ _ _ _ _ _ _ (s .0) (s .1) (length-map (p .marks) oneIf ∙ s .2), blocks-back (p .part) (p .blocks) b, part-back (p .part) (p .blocks) b) (simp (on-flag, on-one))
 
 -- any 64 bytes are a processor's
 pub unpacked-sized : (bytes : List ℕ) → length bytes ≡ 64 → Sized (unpacked bytes)
 unfolding unpacked
 unpacked-sized bytes l = (length-part 0 8 bytes (omega arith), length-part 8 8 bytes (omega arith), length-marks 19 25 bytes (omega arith))
 
-pub unpacked-board : (bytes : List ℕ) → isBoard (unpacked bytes .blocks) ≡ true
+pub unpacked-board : (bytes : List ℕ) → isBoard (unpacked bytes .part) (unpacked bytes .blocks) ≡ true
 unfolding unpacked
 unpacked-board bytes = board-named (getD bytes 44 0)

@@ -1,21 +1,27 @@
 -- The 64 bytes that hold a processor.
 -- Assumes nothing.
-use Prim.Native.Nat.{ℕ}
+use Prim.Native.Nat.{ℕ, _+_, _*_, _/_, _%_}
 use mathlib.Core.Bool.{Bool, not}
 use mathlib.Core.List.{List, [], _∷_, _++_, map}
 use lib.Dec.{eqb}
 use lib.ListN.{getD, take, drop, replicate}
 use Rattle.basics.specs.Choice.{pick, oneIf}
-use Rattle.address.specs.Boards.{isBoard, fullBoard}
+use Rattle.board.specs.Boards.{isBoard, fullBoard}
+use Rattle.board.specs.declared.Part.{Part}
+use Rattle.board.specs.declared.Part.the-variants.{Ef9345, Ts9347}
 use Rattle.processor.specs.declared.state.Processor.{Processor}
 
--- 0 stands for 16 blocks
+-- a board's byte: its blocks modulo 16, and 4 for every 32. So 0 stands for 16 blocks, 2 and 8 for themselves, and 4 for a TS9347's 32
 abbrev pub boardByte : ℕ → ℕ
-boardByte blocks = pick (eqb blocks fullBoard) 0 blocks
+boardByte blocks = blocks % 16 + 4 * (blocks / 32)
 
--- a byte that names none of the boards stands for 16 blocks
-abbrev pub boardOf : ℕ → ℕ
-boardOf b = pick (isBoard b) b fullBoard
+-- by a byte's low four bits: 4 stands for a TS9347, since no number of blocks is of both parts
+abbrev pub partOfByte : ℕ → Part
+partOfByte b = pick (eqb (b % 16) 4) Ts9347 Ef9345
+
+-- with its 32 blocks; what names no board stands for 16
+abbrev pub blocksOfByte : ℕ → ℕ
+blocksOfByte b = pick (eqb (b % 16) 4) 32 (pick (isBoard Ef9345 (b % 16)) (b % 16) fullBoard)
 
 -- R0 to R7, the indirect registers by r, LXm, LXa, the phase, the 25 marks, the board, and 19 bytes of 0. (A bit or a mark is 1 or 0.)
 unfoldable pub packed : Processor → List ℕ
@@ -36,5 +42,6 @@ unpacked bytes =
       lxa = isOn (getD bytes 17 0);
       phase = getD bytes 18 0;
       marks = map isOn (take 25 (drop 19 bytes));
-      blocks = boardOf (getD bytes 44 0);
+      blocks = blocksOfByte (getD bytes 44 0);
+      part = partOfByte (getD bytes 44 0);
     }

@@ -4,6 +4,7 @@ use Prim.Native.Nat.{ℕ}
 use mathlib.Core.List.{List, [], _∷_, _++_, map}
 use lib.ListN.{replicate}
 use Rattle.basics.specs.Choice.{oneIf}
+use Rattle.board.specs.Boards.{partNumber}
 use Rattle.shown.specs.declared.Shown.{Shown}
 use Rattle.processor.specs.declared.state.Processor.{Processor}
 use Rattle.processor.specs.States.{registerOf, statusOf, shownOf}
@@ -17,7 +18,7 @@ registersShown p =
 abbrev pub drawnBy : Shown → List ℕ
 drawnBy shown = shown .tgs ∷ shown .mat ∷ shown .pat ∷ shown .dor ∷ shown .ror ∷ shown .phase ∷ []
 
--- R1 to R7, the command, the status, TGS, MAT, PAT, DOR, ROR, the phase, the 25 marks (1 or 0), a byte of 0, the blocks, and 6 bytes of 0
+-- R1 to R7, the command, the status, TGS, MAT, PAT, DOR, ROR, the phase, the 25 marks (1 or 0), the part (0 EF9345, 1 TS9347), the blocks, and 6 bytes of 0
 unfoldable pub reported : Processor → List ℕ
 reported p =
-    registersShown p ++ drawnBy (shownOf p) ++ map oneIf (p .marks) ++ 0 ∷ p .blocks ∷ replicate 6 0
+    registersShown p ++ drawnBy (shownOf p) ++ map oneIf (p .marks) ++ partNumber (p .part) ∷ p .blocks ∷ replicate 6 0

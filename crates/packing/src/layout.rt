@@ -1,37 +1,52 @@
 // The 64 bytes that hold a processor.
 ghost use mathlib.Core.Path.{_≡_};
 ghost use mathlib.Core.Bool.{true};
-ghost use Rattle.address.specs.Boards.{isBoard};
-ghost use Rattle.packing.specs.Layouts.{boardByte, boardOf, packed, unpacked};
+ghost use Prim.Native.Nat.{_%_};
+ghost use lib.ListN.{getD};
+ghost use Rattle.board.specs.Boards.{isBoard};
+ghost use Rattle.packing.specs.Layouts.{boardByte, partOfByte, blocksOfByte, packed, unpacked};
 use crate::part::eight_from;
 use crate::part::flag;
 use crate::part::marks_from;
 use crate::part::put_eight;
 use crate::part::put_marks;
-use address::board::BLOCKS;
+use board::Part;
 use processor::state::Processor;
 
-// The byte of a board: 0 stands for 16 blocks.
+// The blocks of the board that a byte's low four bits name: 2 and 8 for themselves, 4 for a TS9347's 32, and any other for 16. (As a table: comparing the
+// byte with each makes `unpacked` too long to be compiled into its callers, and each of them fifty instructions dearer.)
+const BOARDS: [u8; 16] = [16, 16, 2, 16, 32, 16, 16, 16, 8, 16, 16, 16, 16, 16, 16, 16];
+
 fn board_byte(blocks: u8) -> u8
     ensures { λ r. ⌜ r ≡ boardByte blocks ⌝ }
 {
-    if blocks == BLOCKS {
-        return 0;
-    }
-    blocks
+    blocks % 16 + blocks / 32 * 4
 }
 
-// The board of a byte: 2 and 8 name one, and any other stands for 16 blocks.
-fn board_of(byte: u8) -> u8
-    ensures { λ r. ⌜ r ≡ boardOf byte ⌝ }
+fn index(byte: u8) -> usize
+    ensures { λ r. ⌜ r ≡ byte % 16 ⌝ }
 {
-    if (byte == 2) | (byte == 8) {
-        return byte;
-    }
-    BLOCKS
+    (byte % 16) as usize
 }
 
-pub fn unpacked(bytes: [u8; 64]) -> Processor
+fn blocks_of(byte: u8) -> u8
+    ensures { λ r. ⌜ r ≡ blocksOfByte byte ⌝ }
+{
+    BOARDS[index(byte)]
+}
+
+fn part_of(byte: u8) -> Part
+    ensures { λ r. ⌜ r ≡ partOfByte byte ⌝ }
+{
+    if byte % 16 == 4 {
+        return Part::Ts9347;
+    }
+    Part::Ef9345
+}
+
+// The processor of bytes whose board is known.
+pub fn unpacked_as(bytes: [u8; 64], blocks: u8, part: Part) -> Processor
+    requires { ⌜ (blocks ≡ blocksOfByte (getD bytes 44 0)) × (part ≡ partOfByte (getD bytes 44 0)) ⌝ }
     ensures { λ r. ⌜ r ≡ unpacked bytes ⌝ }
 {
     let registers = eight_from(bytes, 0);
@@ -44,13 +59,21 @@ pub fn unpacked(bytes: [u8; 64]) -> Processor
         lxa: bytes[17] != 0,
         phase: bytes[18],
         marks,
-        blocks: board_of(bytes[44]),
+        blocks,
+        part,
     }
+}
+
+pub fn unpacked(bytes: [u8; 64]) -> Processor
+    ensures { λ r. ⌜ r ≡ unpacked bytes ⌝ }
+{
+    let byte = bytes[44];
+    unpacked_as(bytes, blocks_of(byte), part_of(byte))
 }
 
 // Whatever the processor of a board, its bytes unpack to it.
 pub fn packed(p: Processor) -> [u8; 64]
-    ensures { λ r. ⌜ (r ≡ packed p) × (isBoard (p .blocks) ≡ true → unpacked r ≡ p) ⌝ }
+    ensures { λ r. ⌜ (r ≡ packed p) × (isBoard (p .part) (p .blocks) ≡ true → unpacked r ≡ p) ⌝ }
 {
     let mut bytes = [0u8; 64];
     bytes[16] = flag(p.lxm);

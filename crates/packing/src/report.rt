@@ -2,6 +2,7 @@
 ghost use mathlib.Core.Path.{_≡_};
 ghost use Rattle.packing.specs.Reports.{reported};
 use crate::part::put_marks;
+use board::part_number;
 use processor::state::Processor;
 
 pub fn reported(p: Processor) -> [u8; 48]
@@ -27,6 +28,8 @@ pub fn reported(p: Processor) -> [u8; 48]
     bytes[12] = indirect[4];
     bytes[13] = indirect[7];
     bytes[14] = p.phase;
+    let part = p.part;
+    bytes[40] = part_number(part);
     bytes[41] = p.blocks;
     put_marks(&mut bytes, 15, marks);
     bytes

@@ -15,13 +15,13 @@ use Rattle.basics.specs.Bits.{isSet}
 use Rattle.basics.specs.Parts.{table}
 use Rattle.basics.proofs.Parts.{table-same}
 use Rattle.address.specs.Addresses.{byteFrom}
-use Rattle.address.specs.Boards.{bytesOf}
+use Rattle.board.specs.Boards.{bytesOf}
 use Rattle.address.specs.Places.{placeOf, blockOf, byteAt}
 use Rattle.address.specs.Triples.{onPage}
 use Rattle.address.proofs.Addresses.{byte-kept}
 use Rattle.address.proofs.Laws.{place-left, place-service, place-right, facts-page, row-facts}
 use Rattle.address.proofs.Places.{place-fits, place-block, place-within}
-use Rattle.cell.specs.Cells.{isQuadrichrome}
+use Rattle.cell.specs.Cells.{areBothSet}
 use Rattle.cell.proofs.Codes.{top-two}
 use Rattle.address.specs.Rows.{rowY}
 use Rattle.shown.specs.declared.Shown.{Shown}
@@ -64,12 +64,12 @@ module _ (y left right x at : ℕ) (el : left ≡ placeOf 0 y 0) (er : right ≡
 pub start-small : (x y p : ℕ) → p ≡ placeOf x y 0 → x < 40 → y < 32 → p < 65536
 start-small x y p e hx hy = omega (arith, e, place-fits 1 x y 0 hx hy (omega arith))
 
--- an attribute of a bichrome cell, by its bit of B
+-- an attribute that goes with B bits 7 and 6 not both set, by its bit of B
 module _ (b k : ℕ) where
-  pub bichrome-bit : b < 192 → isSet k b ≡ (not (isQuadrichrome b) && isSet k b)
+  pub bichrome-bit : b < 192 → isSet k b ≡ (not (areBothSet b) && isSet k b)
   bichrome-bit h = rw (top-two b (omega arith) ∙ lt-leb 192 b h)
 
-  pub quadrichrome-bit : 192 ≤ b → b < 256 → false ≡ (not (isQuadrichrome b) && isSet k b)
+  pub quadrichrome-bit : 192 ≤ b → b < 256 → false ≡ (not (areBothSet b) && isSet k b)
   quadrichrome-bit h l = rw (top-two b l ∙ le-leb 192 b h)
 
 -- a byte past the end of memory
@@ -110,7 +110,8 @@ pub has-code :
     → Has m z 0 × Has m z 1 × Has m z 2
 has-code shown m whole z e p q = rw e (has-block shown m whole 0 (first-fitted shown p), has-block shown m whole 1 p, has-block shown m whole 2 q)
 
--- a cell's code, by ROR and the board alone
-pub code-ignores : (a b : Shown) → a .ror ≡ b .ror → a .blocks ≡ b .blocks → (m : List ℕ) (r x : ℕ) → codeAt a m r x ≡ codeAt b m r x
+-- a cell's code, by where the page stands and the blocks alone
+pub code-ignores :
+    (a b : Shown) → a .ror ≡ b .ror → a .dor ≡ b .dor → a .part ≡ b .part → a .blocks ≡ b .blocks → (m : List ℕ) (r x : ℕ) → codeAt a m r x ≡ codeAt b m r x
 unfolding codeAt codeAddress
-code-ignores a b ror blocks m r x = rw (ror, blocks)
+code-ignores a b ror dor part blocks m r x = rw (ror, dor, part, blocks)

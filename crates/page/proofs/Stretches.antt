@@ -6,16 +6,18 @@ use mathlib.Core.Bool.{Bool, true, false, not, _&&_, _||_}
 use mathlib.Core.List.{List, [], _∷_}
 use mathlib.Core.Logic.{⊎-elim}
 use native.Mathlib.Omega.{arith}
-use lib.Dec.{ltb, eqb}
+use lib.Dec.{ltb, leb, eqb}
 use lib.ListN.{length, getD, List·getD-eq-default}
 use Rattle.basics.specs.Below.{anyBelow}
 use Rattle.basics.proofs.Below.{any-same, any-split}
 use Rattle.basics.proofs.Choice.{lt-or-le, eq-or-ne}
-use Rattle.basics.proofs.Computed.{agree-test}
 use Rattle.address.specs.Places.{placeOf, blockOf}
 use Rattle.address.proofs.Laws.{place-left, place-service, place-right}
 use Rattle.address.proofs.Places.{place-within}
+use Rattle.board.specs.declared.Part.{Part}
 use Rattle.cell.specs.Cells.{isQuadrichrome}
+use Rattle.cell.specs.HowCells.{lastBichrome}
+use Rattle.cell.proofs.Codes.{bichrome-last, wide-bits}
 use Rattle.page.specs.HowCodes.{codeOf, Has}
 use Rattle.page.specs.Halves.{isTall, isWide, sameCode, goesOn}
 use Rattle.page.specs.HowHalves.{Within, Compared, stretchCode, goesOnIn}
@@ -97,51 +99,52 @@ starts-fit m first n y z s e h0 h1 h2 hy column side = (
 pub within-less : (m : List ℕ) (s : Starts) (n i : ℕ) → Within m s n → i < n → Within m s (i + 1)
 within-less m s n i w l = (omega (arith, w .0), omega (arith, w .1), omega (arith, w .2))
 
--- a bichrome cell's B
-pub bichrome-test : (b : ℕ) → b < 256 → ltb b 192 ≡ not (isQuadrichrome b)
-bichrome-test = agree-test (λ b. ltb b 192) (λ b. not (isQuadrichrome b)) 256 tt
+-- a bichrome cell's B, by the last that one can have
+pub bichrome-test : (part : Part) (last b : ℕ) → last ≡ lastBichrome part → b < 256 → leb b last ≡ not (isQuadrichrome part b)
+bichrome-test part last b e h = ap (leb b) e ∙ sym (bichrome-last part b h)
 
 -- the tests of a cell, by the bytes that the code reads
 module _ (code : List ℕ) where
-  pub tall-test : (b : ℕ) → b < 256 → b ≡ getD code 1 0 → (ltb b 192 && eqb (b / 2 % 2) 1) ≡ isTall code
+  pub tall-test :
+      (part : Part) (last b : ℕ) → last ≡ lastBichrome part → b < 256 → b ≡ getD code 1 0 → (leb b last && eqb (b / 2 % 2) 1) ≡ isTall part code
   unfolding isTall
-  tall-test b h e = ap (λ (t : Bool). t && eqb (b / 2 % 2) 1) (bichrome-test b h) ∙ rw e
+  tall-test part last b k h e = ap (λ (t : Bool). t && eqb (b / 2 % 2) 1) (bichrome-test part last b k h) ∙ rw e
 
   pub wide-test : (b : ℕ) → b < 256 → b ≡ getD code 1 0 → (ltb b 192 && eqb (b / 8 % 2) 1) ≡ isWide code
   unfolding isWide
-  wide-test b h e = ap (λ (t : Bool). t && eqb (b / 8 % 2) 1) (bichrome-test b h) ∙ rw e
+  wide-test b h e = wide-bits b h ∙ rw e
 
 -- cell i of a stretch goes on from the one above it, by the six bytes that the code reads
 pub goes-on-test :
-    (m : List ℕ) (here above : Starts) (i : ℕ) → getD m (here .b + i) 0 < 256
-    → ((ltb (getD m (here .b + i) 0) 192 && eqb (getD m (here .b + i) 0 / 2 % 2) 1)
+    (part : Part) (last : ℕ) → last ≡ lastBichrome part → (m : List ℕ) (here above : Starts) (i : ℕ) → getD m (here .b + i) 0 < 256
+    → ((leb (getD m (here .b + i) 0) last && eqb (getD m (here .b + i) 0 / 2 % 2) 1)
     && (eqb (getD m (here .c + i) 0) (getD m (above .c + i) 0)
     && (eqb (getD m (here .b + i) 0) (getD m (above .b + i) 0) && eqb (getD m (here .a + i) 0) (getD m (above .a + i) 0))))
-    ≡ goesOn (isTall (stretchCode m here i)) (stretchCode m here i) (stretchCode m above i)
+    ≡ goesOn (isTall part (stretchCode m here i)) (stretchCode m here i) (stretchCode m above i)
 unfolding sameCode
-goes-on-test m here above i h =
+goes-on-test part last k m here above i h =
     ap
     (λ (t : Bool).
     t
     && (eqb (getD m (here .c + i) 0) (getD m (above .c + i) 0)
     && (eqb (getD m (here .b + i) 0) (getD m (above .b + i) 0) && eqb (getD m (here .a + i) 0) (getD m (above .a + i) 0))))
-    (tall-test (stretchCode m here i) _ h refl)
+    (tall-test (stretchCode m here i) part last _ k h refl)
 
 -- and so does the cell in its column
 pub goes-on-from :
-    (first i : ℕ) → first + i < 40 → first % 32 + i < 32 → (m : List ℕ) (y u z : ℕ) (here above : Starts)
+    (part : Part) (first i : ℕ) → first + i < 40 → first % 32 + i < 32 → (m : List ℕ) (y u z : ℕ) (here above : Starts)
     → (here .c ≡ placeOf first y (blockOf z 0)) × (here .b ≡ placeOf first y (blockOf z 1)) × (here .a ≡ placeOf first y (blockOf z 2))
     → (above .c ≡ placeOf first u (blockOf z 0)) × (above .b ≡ placeOf first u (blockOf z 1)) × (above .a ≡ placeOf first u (blockOf z 2))
-    → goesOn (isTall (stretchCode m here i)) (stretchCode m here i) (stretchCode m above i) ≡ goesOnIn m z y u (first + i)
-goes-on-from first i column side m y u z here above h a =
+    → goesOn (isTall part (stretchCode m here i)) (stretchCode m here i) (stretchCode m above i) ≡ goesOnIn part m z y u (first + i)
+goes-on-from part first i column side m y u z here above h a =
     rw (code-from first i column side m y z here (h .0) (h .1) (h .2), code-from first i column side m u z above (a .0) (a .1) (a .2))
 
 -- where every third byte is 0, the first bytes compared twice tell the same
 on-twice :
-    (c b d e : ℕ)
-    → goesOn (isTall (c ∷ b ∷ c ∷ [])) (c ∷ b ∷ c ∷ []) (d ∷ e ∷ d ∷ []) ≡ goesOn (isTall (c ∷ b ∷ 0 ∷ [])) (c ∷ b ∷ 0 ∷ []) (d ∷ e ∷ 0 ∷ [])
+    (part : Part) (c b d e : ℕ)
+    → goesOn (isTall part (c ∷ b ∷ c ∷ [])) (c ∷ b ∷ c ∷ []) (d ∷ e ∷ d ∷ []) ≡ goesOn (isTall part (c ∷ b ∷ 0 ∷ [])) (c ∷ b ∷ 0 ∷ []) (d ∷ e ∷ 0 ∷ [])
 unfolding isTall sameCode
-on-twice c b d e = ap (λ (s : Bool). isTall (c ∷ b ∷ 0 ∷ []) && s) (go (eqb c d) (eqb b e))
+on-twice part c b d e = ap (λ (s : Bool). isTall part (c ∷ b ∷ 0 ∷ []) && s) (go (eqb c d) (eqb b e))
   where
     go : (p q : Bool) → (p && (q && p)) ≡ (p && (q && true))
     go true q = refl
@@ -163,18 +166,18 @@ module _ (m : List ℕ) (z t : ℕ) (fit : Compared m z t) where
       has-third = ⊎-elim (λ f. rw (f .0) (f .1)) (λ f. rw (f .0) (fit .0)) (fit .2)
 
   pub compared-on :
-      (first i : ℕ) → first + i < 40 → first % 32 + i < 32 → (y u : ℕ) (here above : Starts)
+      (part : Part) (first i : ℕ) → first + i < 40 → first % 32 + i < 32 → (y u : ℕ) (here above : Starts)
       → (here .c ≡ placeOf first y (blockOf z 0)) × (here .b ≡ placeOf first y (blockOf z 1)) × (here .a ≡ placeOf first y (blockOf z t))
       → (above .c ≡ placeOf first u (blockOf z 0)) × (above .b ≡ placeOf first u (blockOf z 1)) × (above .a ≡ placeOf first u (blockOf z t))
-      → goesOn (isTall (stretchCode m here i)) (stretchCode m here i) (stretchCode m above i) ≡ goesOnIn m z y u (first + i)
-  compared-on first i column side y u here above h a = ⊎-elim whole bare (fit .2)
+      → goesOn (isTall part (stretchCode m here i)) (stretchCode m here i) (stretchCode m above i) ≡ goesOnIn part m z y u (first + i)
+  compared-on part first i column side y u here above h a = ⊎-elim whole bare (fit .2)
     where
       On : Type 0
-      On = goesOn (isTall (stretchCode m here i)) (stretchCode m here i) (stretchCode m above i) ≡ goesOnIn m z y u (first + i)
+      On = goesOn (isTall part (stretchCode m here i)) (stretchCode m here i) (stretchCode m above i) ≡ goesOnIn part m z y u (first + i)
 
       whole : (t ≡ 2) × Has m z 2 → On
       whole f =
-          goes-on-from first i column side m y u z here above (h .0, h .1, h .2 ∙ ap (λ (k : ℕ). placeOf first y (blockOf z k)) (f .0))
+          goes-on-from part first i column side m y u z here above (h .0, h .1, h .2 ∙ ap (λ (k : ℕ). placeOf first y (blockOf z k)) (f .0))
           (a .0, a .1, a .2 ∙ ap (λ (k : ℕ). placeOf first u (blockOf z k)) (f .0))
 
       bare : (t ≡ 0) × (length m ≤ 1024 * blockOf z 2) → On
@@ -182,7 +185,7 @@ module _ (m : List ℕ) (z t : ℕ) (fit : Compared m z t) where
           let here-a : here .a ≡ here .c = h .2 ∙ ap (λ (k : ℕ). placeOf first y (blockOf z k)) (f .0) ∙ sym (h .0) in
           let above-a : above .a ≡ above .c = a .2 ∙ ap (λ (k : ℕ). placeOf first u (blockOf z k)) (f .0) ∙ sym (a .0) in
           rw (here-a, above-a)
-          (on-twice (getD m (here .c + i) 0) (getD m (here .b + i) 0) (getD m (above .c + i) 0) (getD m (above .b + i) 0)
+          (on-twice part (getD m (here .c + i) 0) (getD m (here .b + i) 0) (getD m (above .c + i) 0) (getD m (above .b + i) 0)
           ∙ rw (bare-from first i column side m y z (here .c) (here .b) (h .0) (h .1) (f .1), bare-from first i column side m u z (above .c) (above .b) (a .0) (a .1) (f .1)))
 
 -- the two stretches of a row

@@ -7,17 +7,18 @@ use lib.Dec.{eqb}
 use lib.ListN.{getD}
 use Rattle.basics.specs.Bits.{isSet}
 use Rattle.basics.specs.Parts.{table}
-use Rattle.cell.specs.Cells.{isQuadrichrome}
+use Rattle.board.specs.declared.Part.{Part}
+use Rattle.cell.specs.Cells.{areBothSet, isQuadrichrome}
 use Rattle.shown.specs.declared.Shown.{Shown}
 use Rattle.page.specs.Codes.{codeAt}
 
 -- a double height cell: bichrome, with B1
-unfoldable pub isTall : List ℕ → Bool
-isTall code = not (isQuadrichrome (getD code 1 0)) && isSet 1 (getD code 1 0)
+unfoldable pub isTall : Part → List ℕ → Bool
+isTall part code = not (isQuadrichrome part (getD code 1 0)) && isSet 1 (getD code 1 0)
 
--- a double width cell: bichrome, with B3
+-- a double width cell: bichrome, with B3, and not of a set Q: of either part B7 and B6 are not both set
 unfoldable pub isWide : List ℕ → Bool
-isWide code = not (isQuadrichrome (getD code 1 0)) && isSet 3 (getD code 1 0)
+isWide code = not (areBothSet (getD code 1 0)) && isSet 3 (getD code 1 0)
 
 -- the same three bytes
 unfoldable pub sameCode : List ℕ → List ℕ → Bool
@@ -36,7 +37,7 @@ secondHalf doubles code (suc i) = goesOn (doubles (code (suc i))) (code (suc i))
 -- A double height cell shows its lower half exactly when the cell above it on the screen (the same column, one row up) has the same
 -- three bytes and shows its upper half; else the upper
 abbrev pub lowerHalf : Shown → List ℕ → ℕ → ℕ → Bool
-lowerHalf shown m r x = secondHalf isTall (λ i. codeAt shown m i x) r
+lowerHalf shown m r x = secondHalf (isTall (shown .part)) (λ i. codeAt shown m i x) r
 
 -- Double width is the same to the left, giving the right half
 abbrev pub rightHalf : Shown → List ℕ → ℕ → ℕ → Bool

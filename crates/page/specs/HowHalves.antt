@@ -7,6 +7,7 @@ use mathlib.Core.Bool.{Bool, true, false, not, _&&_}
 use mathlib.Core.List.{List, [], _∷_}
 use mathlib.Core.Logic.{_⊎_}
 use lib.ListN.{length, getD}
+use Rattle.board.specs.declared.Part.{Part}
 use Rattle.address.specs.Places.{blockOf}
 use Rattle.shown.specs.declared.Shown.{Shown}
 use Rattle.page.specs.Codes.{codeAt}
@@ -31,16 +32,16 @@ abbrev pub stretchCode : List ℕ → Starts → ℕ → List ℕ
 stretchCode m s i = getD m (s .c + i) 0 ∷ getD m (s .b + i) 0 ∷ getD m (s .a + i) 0 ∷ []
 
 -- a cell of the row at y goes on from the one above it, in the row at u
-abbrev pub goesOnIn : List ℕ → ℕ → ℕ → ℕ → ℕ → Bool
-goesOnIn m z y u x = goesOn (isTall (codeOf m z y x)) (codeOf m z y x) (codeOf m z u x)
+abbrev pub goesOnIn : Part → List ℕ → ℕ → ℕ → ℕ → ℕ → Bool
+goesOnIn part m z y u x = goesOn (isTall part (codeOf m z y x)) (codeOf m z y x) (codeOf m z u x)
 
 -- its lower half, from those of the row above
-abbrev pub nextLowerIn : List ℕ → ℕ → ℕ → ℕ → List Bool → ℕ → Bool
-nextLowerIn m z y u lowers x = goesOnIn m z y u x && not (getD lowers x false)
+abbrev pub nextLowerIn : Part → List ℕ → ℕ → ℕ → ℕ → List Bool → ℕ → Bool
+nextLowerIn part m z y u lowers x = goesOnIn part m z y u x && not (getD lowers x false)
 
 -- the same of screen row r, which is not the first
 abbrev pub goesOnAt : Shown → List ℕ → ℕ → ℕ → Bool
-goesOnAt shown m r x = goesOn (isTall (codeAt shown m r x)) (codeAt shown m r x) (codeAt shown m (r - 1) x)
+goesOnAt shown m r x = goesOn (isTall (shown .part) (codeAt shown m r x)) (codeAt shown m r x) (codeAt shown m (r - 1) x)
 
 abbrev pub nextLowerAt : Shown → List ℕ → ℕ → List Bool → ℕ → Bool
 nextLowerAt shown m r lowers x = goesOnAt shown m r x && not (getD lowers x false)

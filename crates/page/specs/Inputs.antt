@@ -6,6 +6,7 @@ use mathlib.Core.List.{List, []}
 use lib.ListN.{getD}
 use Rattle.basics.specs.Bits.{isSet}
 use Rattle.basics.specs.Parts.{table}
+use Rattle.board.specs.declared.Part.{Part}
 use Rattle.shown.specs.declared.Shown.{Shown}
 use Rattle.cell.specs.declared.kind.Cell.{Cell}
 use Rattle.cell.specs.Cells.{isQuadrichrome, cellOf}
@@ -16,12 +17,12 @@ use Rattle.sources.specs.declared.source.Source.{Source}
 use Rattle.sources.specs.declared.source.Source.the-variants.{Rom, Block}
 
 -- the cell of three code bytes
-abbrev pub decoded : List ℕ → Cell
-decoded code = cellOf (getD code 0 0) (getD code 1 0) (getD code 2 0)
+abbrev pub decoded : Part → List ℕ → Cell
+decoded part code = cellOf part (getD code 0 0) (getD code 1 0) (getD code 2 0)
 
 -- a bichrome cell whose A3 is set
-unfoldable pub flashes : List ℕ → Bool
-flashes code = not (isQuadrichrome (getD code 1 0)) && isSet 3 (getD code 2 0)
+unfoldable pub flashes : Part → List ℕ → Bool
+flashes part code = not (isQuadrichrome part (getD code 1 0)) && isSet 3 (getD code 2 0)
 
 -- a cell's slices: the number of a ROM set, or the ten that private memory has
 pub data Slices : Type 0 where
@@ -48,7 +49,8 @@ unfoldable pub cellInput : Shown → List ℕ → ℕ → ℕ → CellInput
 cellInput shown m r x =
     record {
       code = codeAt shown m r x;
-      slices = takenFrom (shown .blocks) m (characterOf (decoded (codeAt shown m r x))) (cellSource shown (decoded (codeAt shown m r x)));
+      slices =
+          takenFrom (shown .blocks) m (characterOf (decoded (shown .part) (codeAt shown m r x))) (cellSource shown (decoded (shown .part) (codeAt shown m r x)));
       lower = lowerHalf shown m r x;
       right = rightHalf shown m r x;
     }

@@ -6,7 +6,7 @@ ghost use lib.Dec.{ltb};
 ghost use lib.ListN.{length};
 ghost use Rattle.basics.specs.Choice.{pick};
 ghost use Rattle.basics.specs.Parts.{table};
-ghost use Rattle.address.specs.Boards.{bytesOf};
+ghost use Rattle.board.specs.Boards.{bytesOf};
 ghost use Rattle.address.specs.Places.{blockOf, byteAt};
 ghost use Rattle.page.specs.Codes.{rowBuffer};
 ghost use Rattle.page.specs.HowCodes.{codeOf, isFitted, Has};

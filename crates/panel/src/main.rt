@@ -5,7 +5,7 @@ ghost use mathlib.Core.Path.{_≡_};
 ghost use Prim.Native.Nat.{_/_};
 ghost use lib.ListN.{length};
 ghost use Rattle.panel.specs.Feeds.{feeding, fedPairs};
-use address::board::MEMORY_BYTES;
+use board::MEMORY_BYTES;
 use libc::STDIN_FILENO;
 use libc::STDOUT_FILENO;
 use processor::state::Processor;

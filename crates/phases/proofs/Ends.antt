@@ -10,7 +10,9 @@ use Rattle.basics.specs.Choice.{pick}
 use Rattle.basics.specs.Below.{anyBelow}
 use Rattle.basics.proofs.Below.{any-same, any-never}
 use Rattle.basics.proofs.Parts.{table-at}
-use Rattle.address.specs.Boards.{bytesOf}
+use Rattle.board.specs.Boards.{bytesOf}
+use Rattle.board.specs.declared.Part.{Part}
+use Rattle.board.specs.declared.Part.the-variants.{Ts9347}
 use Rattle.address.specs.Rows.{rowY}
 use Rattle.shown.specs.declared.Shown.{Shown}
 use Rattle.shown.specs.Modes.{isEighty}
@@ -24,15 +26,19 @@ use Rattle.page.specs.Inputs.{flashes}
 use Rattle.page.specs.Marks.{markedToo}
 use Rattle.narrow.specs.Codes.{evenOf, oddOf, pairFlashes}
 use Rattle.asking.specs.HowAsked.{blinks}
-use Rattle.asking.proofs.Rows.{still-test}
+use Rattle.asking.proofs.Rows.{still-test, blink-flashes}
 use Rattle.phases.specs.HowPhases.{flashesIn}
 use Rattle.reading.specs.Marks.{columnFlashes, flashIn, phaseMarks}
 use Rattle.reading.proofs.Marking.{marked-none, marked-same}
 
 -- the test of a column, by the mode
 module _ (shown : Shown) (code : List ℕ) where
-  pub forty-flashes : isEighty shown ≡ false → flashes code ≡ columnFlashes shown code
-  forty-flashes e = rw e
+  pub forty-flashes : (part : Part) → shown .part ≡ part → isEighty shown ≡ false → flashes part code ≡ columnFlashes shown code
+  forty-flashes part p e = rw (e, p)
+
+  -- of a TS9347 by A3 alone
+  pub forty-blinks : shown .part ≡ Ts9347 → isEighty shown ≡ false → blinks code ≡ columnFlashes shown code
+  forty-blinks p e = blink-flashes code ∙ forty-flashes Ts9347 p e
 
   pub eighty-flashes : isEighty shown ≡ true → pairFlashes code ≡ columnFlashes shown code
   eighty-flashes e = rw e
@@ -51,9 +57,9 @@ flash-made shown m whole z yor marks after f ef ez eo e =
 
 -- a column whose A is 0 does not flash
 module _ (code : List ℕ) (none : getD code 2 0 ≡ 0) where
-  bare-flashes : flashes code ≡ false
+  bare-flashes : (part : Part) → flashes part code ≡ false
   unfolding blinks
-  bare-flashes = still-test code (rw none)
+  bare-flashes part = still-test code part (rw none)
 
   bare-pair : pairFlashes code ≡ false
   unfolding pairFlashes evenOf oddOf
@@ -62,9 +68,9 @@ module _ (code : List ℕ) (none : getD code 2 0 ≡ 0) where
   bare-column : (shown : Shown) → columnFlashes shown code ≡ false
   bare-column shown = go (isEighty shown)
     where
-      go : (t : Bool) → pick t (pairFlashes code) (flashes code) ≡ false
+      go : (t : Bool) → pick t (pairFlashes code) (flashes (shown .part) code) ≡ false
       go true = bare-pair
-      go false = bare-flashes
+      go false = bare-flashes (shown .part)
 
 -- where the page's third block is not fitted
 module _ (shown : Shown) (m : List ℕ) (whole : length m ≡ bytesOf (shown .blocks)) (bare : isFitted shown 2 ≡ false) where
@@ -82,14 +88,16 @@ module _ (shown : Shown) (m : List ℕ) (whole : length m ≡ bytesOf (shown .bl
   flash-none marks h = marked-none _ marks h (λ i l. no-flash i)
 
 -- a column of the row buffer, by its three bytes
-pub by-bytes : (eighty : Bool) (code : List ℕ) → flashesIn eighty (getD code 0 0 ∷ getD code 1 0 ∷ getD code 2 0 ∷ []) ≡ flashesIn eighty code
+pub by-bytes :
+    (part : Part) (eighty : Bool) (code : List ℕ) → flashesIn part eighty (getD code 0 0 ∷ getD code 1 0 ∷ getD code 2 0 ∷ []) ≡ flashesIn part eighty code
 unfolding flashes pairFlashes evenOf oddOf
-by-bytes true code = refl
-by-bytes false code = refl
+by-bytes part true code = refl
+by-bytes part false code = refl
 
 -- the row whose forty columns were asked
 pub row-flashed :
-    (shown : Shown) (m : List ℕ) (cells : List (List ℕ)) (r x : ℕ) (eighty found : Bool) → found ≡ anyBelow (λ i. flashesIn eighty (getD cells i [])) x → x ≡ 40
+    (shown : Shown) (m : List ℕ) (cells : List (List ℕ)) (r x : ℕ) (eighty found : Bool)
+    → found ≡ anyBelow (λ i. flashesIn (shown .part) eighty (getD cells i [])) x → x ≡ 40
     → cells ≡ rowBuffer shown m r → eighty ≡ isEighty shown → found ≡ flashIn shown m r
 unfolding flashIn
 row-flashed shown m cells r x eighty found e ex ec ee =

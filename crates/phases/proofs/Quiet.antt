@@ -11,6 +11,7 @@ use Rattle.basics.specs.Below.{anyBelow}
 use Rattle.basics.proofs.Choice.{and-left, and-right}
 use Rattle.address.specs.Rows.{rowY}
 use Rattle.address.proofs.Laws.{row-from-one}
+use Rattle.board.specs.declared.Part.{Part}
 use Rattle.asking.specs.HowAsked.{flashAt, blinkAt}
 use Rattle.asking.proofs.Rows.{none-flashes}
 use Rattle.phases.specs.HowPhases.{areQuiet}
@@ -36,10 +37,12 @@ module _ (m : List ℕ) (z y : ℕ) (before : Bool) where
   unfolding areQuiet
   quiet-looked t e l q = rw (e, le-leb y 28 l, q)
 
-  pub quiet-still : (yor r : ℕ) (t : Bool) → t ≡ areQuiet m z y before → t ≡ true → y ≡ rowY yor r → (r ≡ 0 → ⊥) → (k : ℕ) → k < 4 → flashAt m z (rowY yor (r + k)) ≡ false
+  pub quiet-still :
+      (part : Part) (yor r : ℕ) (t : Bool) → t ≡ areQuiet m z y before → t ≡ true → y ≡ rowY yor r → (r ≡ 0 → ⊥)
+      → (k : ℕ) → k < 4 → flashAt part m z (rowY yor (r + k)) ≡ false
   unfolding areQuiet
-  quiet-still yor r t e on ey n k l =
+  quiet-still part yor r t e on ey n k l =
       let rest = and-right (not before) _ (sym e ∙ on) in
       let low = leb-true y 28 (and-left _ _ rest) in
-      ap (flashAt m z) (row-next yor r k n (omega arith) ∙ ap (λ (a : ℕ). a + k) (sym ey))
-      ∙ none-flashes m z y 4 looks refl (not-true looks (and-right (leb y 28) _ rest)) k l
+      ap (flashAt part m z) (row-next yor r k n (omega arith) ∙ ap (λ (a : ℕ). a + k) (sym ey))
+      ∙ none-flashes part m z y 4 looks refl (not-true looks (and-right (leb y 28) _ rest)) k l

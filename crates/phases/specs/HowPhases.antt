@@ -7,6 +7,7 @@ use mathlib.Core.List.{List}
 use lib.Dec.{leb}
 use Rattle.basics.specs.Below.{anyBelow}
 use Rattle.basics.specs.Choice.{pick}
+use Rattle.board.specs.declared.Part.{Part}
 use Rattle.page.specs.Inputs.{flashes}
 use Rattle.narrow.specs.Codes.{pairFlashes}
 use Rattle.asking.specs.HowAsked.{blinkAt}
@@ -16,5 +17,5 @@ unfoldable pub areQuiet : List ℕ → ℕ → ℕ → Bool → Bool
 areQuiet m z y before = not before && (leb y 28 && not (anyBelow (λ k. blinkAt m z (y + k)) 4))
 
 -- the column of three bytes flashes, in 80 columns or in 40
-abbrev pub flashesIn : Bool → List ℕ → Bool
-flashesIn eighty code = pick eighty (pairFlashes code) (flashes code)
+abbrev pub flashesIn : Part → Bool → List ℕ → Bool
+flashesIn part eighty code = pick eighty (pairFlashes code) (flashes part code)

@@ -3,20 +3,23 @@ ghost use mathlib.Core.Path.{_≡_};
 ghost use mathlib.Core.Bool.{_&&_};
 ghost use Prim.Native.Nat.{_+_, _<_, _≤_};
 ghost use lib.ListN.{length};
-ghost use Rattle.address.specs.Boards.{bytesOf};
+ghost use Rattle.board.specs.Boards.{bytesOf};
+ghost use Rattle.board.specs.declared.Part.the-variants.{Ef9345};
 ghost use Rattle.address.specs.Rows.{rowY};
 ghost use Rattle.page.specs.HowCodes.{Has};
 ghost use Rattle.page.specs.Marks.{markedToo};
 ghost use Rattle.reading.specs.Marks.{flashIn, phaseMarks};
-ghost use Rattle.asking.specs.HowAsked.{flashAt, pairFlashAt};
+ghost use Rattle.asking.specs.HowAsked.{flashAt, pairFlashAt, blinkAt};
 ghost use Rattle.marking.specs.HowMarked.{inGroup};
 ghost use Rattle.phases.specs.HowPhases.{areQuiet};
 use crate::bare::bare_flash_in;
 use address::row::row_y;
+use asking::row::is_marked_or_blinks;
 use asking::row::is_marked_or_flashes;
 use asking::row::is_marked_or_pair_flashes;
 use asking::row::near_blinks;
 use asking::row::service_is_marked_or_flashes;
+use board::Part;
 use page::code::is_fitted;
 use shown::Shown;
 
@@ -35,10 +38,10 @@ fn are_quiet(memory: &[u8], z: u8, y: u8, before: bool) -> bool
     !near_blinks(memory, z, y)
 }
 
-// Four rows from one on. A row that is marked already is not asked. The marks are changed in place: as an array by value they would be taken apart.
+// Four rows from one on, of an EF9345. A row that is marked already is not asked. The marks are changed in place: as an array by value they would be taken apart.
 fn four_flash(marks: &mut [bool; 25], memory: &[u8], z: u8, yor: u8, first: usize)
     requires { ⌜ (length (now marks) ≡ 25) × Has (now memory) z 1 × Has (now memory) z 2 × (first < 22) ⌝ }
-    ensures { λ _. ⌜ now (marks .exit) ≡ markedToo (λ r. inGroup first (first + 4) r && flashAt (now (memory .entry)) z (rowY yor r)) (now (marks .entry)) ⌝ }
+    ensures { λ _. ⌜ now (marks .exit) ≡ markedToo (λ r. inGroup first (first + 4) r && flashAt Ef9345 (now (memory .entry)) z (rowY yor r)) (now (marks .entry)) ⌝ }
 {
     for r in first..first + 4 {
         let marked = marks[r];
@@ -46,10 +49,10 @@ fn four_flash(marks: &mut [bool; 25], memory: &[u8], z: u8, yor: u8, first: usiz
     }
 }
 
-// The rows that flash: the service row, and then four at a time.
+// The rows that flash, of an EF9345: the service row, and then four at a time.
 fn flash_in(marks: &mut [bool; 25], memory: &[u8], z: u8, yor: u8)
     requires { ⌜ (length (now marks) ≡ 25) × Has (now memory) z 1 × Has (now memory) z 2 ⌝ }
-    ensures { λ _. ⌜ now (marks .exit) ≡ markedToo (λ r. flashAt (now (memory .entry)) z (rowY yor r)) (now (marks .entry)) ⌝ }
+    ensures { λ _. ⌜ now (marks .exit) ≡ markedToo (λ r. flashAt Ef9345 (now (memory .entry)) z (rowY yor r)) (now (marks .entry)) ⌝ }
 {
     let service = marks[0];
     marks[0] = service_is_marked_or_flashes(memory, z, service);
@@ -70,6 +73,17 @@ fn pair_flash_in(marks: &mut [bool; 25], memory: &[u8], z: u8, yor: u8)
     for r in 0..25usize {
         let marked = marks[r];
         marks[r] = is_marked_or_pair_flashes(memory, z, row_y(yor, r as u8), marked);
+    }
+}
+
+// The rows that have a cell whose A3 is set: those that flash, of a TS9347. A row that is marked already is not asked.
+fn blink_in(marks: &mut [bool; 25], memory: &[u8], z: u8, yor: u8)
+    requires { ⌜ (length (now marks) ≡ 25) × Has (now memory) z 2 ⌝ }
+    ensures { λ _. ⌜ now (marks .exit) ≡ markedToo (λ r. blinkAt (now (memory .entry)) z (rowY yor r)) (now (marks .entry)) ⌝ }
+{
+    for r in 0usize..25 {
+        let marked = marks[r];
+        marks[r] = is_marked_or_blinks(memory, z, row_y(yor, r as u8), marked);
     }
 }
 
@@ -94,8 +108,17 @@ fn flash_marks(marks: [bool; 25], shown: Shown, memory: &[u8]) -> [bool; 25]
         return after;
     }
     if fitted {
-        flash_in(&mut after, memory, z, yor);
-        return after;
+        let part = shown.part;
+        match part {
+            Part::Ef9345 => {
+                flash_in(&mut after, memory, z, yor);
+                return after;
+            }
+            Part::Ts9347 => {
+                blink_in(&mut after, memory, z, yor);
+                return after;
+            }
+        }
     }
     bare_flash_in(&mut after, memory, shown);
     after

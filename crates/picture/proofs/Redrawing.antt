@@ -11,8 +11,10 @@ use Rattle.basics.specs.Below.{anyBelow}
 use Rattle.basics.specs.Choice.{pick}
 use Rattle.basics.specs.Parts.{partOf}
 use Rattle.basics.proofs.Below.{any-not, count-never}
+use Rattle.board.specs.declared.Part.{Part}
+use Rattle.board.specs.declared.Part.the-variants.{Ef9345, Ts9347}
 use Rattle.shown.specs.declared.Shown.{Shown}
-use Rattle.shown.specs.Lengths.{fortyBytes, eightyBytes, rowBytes, pictureBytes}
+use Rattle.shown.specs.Lengths.{romBytes, fortyBytes, eightyBytes, rowBytes, pictureBytes}
 use Rattle.shown.specs.Modes.{isEighty, columnBytes}
 use Rattle.page.specs.Codes.{rowBuffer}
 use Rattle.page.specs.Halves.{lowerHalves}
@@ -87,6 +89,11 @@ module _
     redrawn-end forty l =
         let done = end fortyBytes marks old (fortyRow m rom shown) picture rows r d l in
         (done .0 ∙ forty-redrawn marks old m rom shown forty, done .1)
+
+-- a ROM has at least the first of its sets
+pub rom-least : (part : Part) → 1280 ≤ romBytes part
+rom-least Ef9345 = omega arith
+rom-least Ts9347 = omega arith
 
 -- the loop over those of 80: a row that is drawn from its row buffer, and the end
 module _

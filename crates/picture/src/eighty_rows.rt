@@ -2,7 +2,7 @@
 ghost use mathlib.Core.Path.{_≡_};
 ghost use mathlib.Core.Bool.{true};
 ghost use lib.ListN.{length};
-ghost use Rattle.address.specs.Boards.{bytesOf};
+ghost use Rattle.board.specs.Boards.{bytesOf};
 ghost use Rattle.shown.specs.Lengths.{romBytes, eightyBytes, pictureBytes};
 ghost use Rattle.shown.specs.Modes.{isEighty};
 ghost use Rattle.page.specs.Marks.{markedRows};
@@ -21,7 +21,7 @@ pub fn redraw_eighty(
     shown: Shown,
     marks: [bool; 25],
 ) -> usize
-    requires { ⌜ (length (now picture) ≡ pictureBytes eightyBytes) × (length (now memory) ≡ bytesOf (shown .blocks)) × (length (now rom) ≡ romBytes) × (isEighty shown ≡ true) ⌝ }
+    requires { ⌜ (length (now picture) ≡ pictureBytes eightyBytes) × (length (now memory) ≡ bytesOf (shown .blocks)) × (length (now rom) ≡ romBytes (shown .part)) × (isEighty shown ≡ true) ⌝ }
     ensures { λ n. ⌜ (now (picture .exit) ≡ redrawn marks (now (picture .entry)) (now (memory .entry)) (now (rom .entry)) shown) × (n ≡ markedRows marks 25) ⌝ }
 {
     let inks = inks_of(shown);

@@ -3,7 +3,7 @@ ghost use mathlib.Core.Path.{_≡_};
 ghost use mathlib.Core.Bool.{false};
 ghost use lib.ListN.{length};
 ghost use Rattle.basics.specs.Below.{anyBelow};
-ghost use Rattle.address.specs.Boards.{bytesOf};
+ghost use Rattle.board.specs.Boards.{bytesOf};
 ghost use Rattle.shown.specs.Lengths.{romBytes, fortyBytes, pictureBytes};
 ghost use Rattle.shown.specs.Modes.{isEighty, columnBytes};
 ghost use Rattle.page.specs.Marks.{isMarked, markedRows};
@@ -35,7 +35,7 @@ fn redraw_rows(
     shown: Shown,
     marks: [bool; 25],
 ) -> usize
-    requires { ⌜ (length (now picture) ≡ pictureBytes fortyBytes) × (length (now memory) ≡ bytesOf (shown .blocks)) × (length (now rom) ≡ romBytes) × (isEighty shown ≡ false) ⌝ }
+    requires { ⌜ (length (now picture) ≡ pictureBytes fortyBytes) × (length (now memory) ≡ bytesOf (shown .blocks)) × (length (now rom) ≡ romBytes (shown .part)) × (isEighty shown ≡ false) ⌝ }
     ensures { λ n. ⌜ (now (picture .exit) ≡ redrawn marks (now (picture .entry)) (now (memory .entry)) (now (rom .entry)) shown) × (n ≡ markedRows marks 25) ⌝ }
 {
     let mut rows = 0;
@@ -73,7 +73,7 @@ pub fn redraw(
     shown: Shown,
     marks: [bool; 25],
 ) -> usize
-    requires { ⌜ (length (now picture) ≡ pictureBytes (columnBytes shown)) × (length (now memory) ≡ bytesOf (shown .blocks)) × (length (now rom) ≡ romBytes) ⌝ }
+    requires { ⌜ (length (now picture) ≡ pictureBytes (columnBytes shown)) × (length (now memory) ≡ bytesOf (shown .blocks)) × (length (now rom) ≡ romBytes (shown .part)) ⌝ }
     ensures { λ n. ⌜ (now (picture .exit) ≡ redrawn marks (now (picture .entry)) (now (memory .entry)) (now (rom .entry)) shown) × (n ≡ markedRows marks 25) ⌝ }
 {
     if !some_marked(marks) {

@@ -12,7 +12,7 @@ use borrow.Author.Tests.{eq-eqb, ne-eqb, lt-ltb, le-ltb, le-leb, lt-leb, eqb-tru
 use Rattle.basics.specs.Bits.{bits}
 use Rattle.basics.proofs.Choice.{lt-or-le, or-neither}
 use Rattle.basics.specs.Choice.{pick}
-use Rattle.address.specs.Boards.{bytesOf}
+use Rattle.board.specs.Boards.{bytesOf}
 use Rattle.address.specs.Narrow.{isOdd, attributesAt, nibbleInto}
 use Rattle.address.specs.Places.{placeOf, blockOf, placeAt, blockAt, loaded}
 use Rattle.address.specs.declared.triple.Triple.{Triple}
@@ -155,54 +155,57 @@ module _ (n : ℕ) (k : Chip) where
         (ea ∙ ap (λ (w : Shown). phaseMarks w (k .memory) (k .processor .marks)) es)
         ∙ rw (eq-eqb _ _ e, le-leb _ _ l, ne-eqb _ _ s)
 
--- a draw: refused with 1, 5, 7, 6 and 8, and done; n is the length that the mode asks for
+-- a draw: refused with 1, 5, 7, 6 and 8, and done; k is the length that the part asks for and n that of the mode
 module _ (p : Processor) (m rom picture : List ℕ) where
   pub draw-memory-refused : (length m ≡ bytesOf (p .blocks) → ⊥) → drawOutcome p picture drawing.WrongMemory ≡ drawn p m rom picture
   unfolding drawn
   draw-memory-refused e = rw (ne-eqb _ _ e)
 
-  module _ (em : length m ≡ bytesOf (p .blocks)) where
-    pub rom-refused : (length rom ≡ romBytes → ⊥) → drawOutcome p picture drawing.WrongRom ≡ drawn p m rom picture
+  module _ (em : length m ≡ bytesOf (p .blocks)) (shown : Shown) (es : shown ≡ shownOf p) (k : ℕ) (ek : k ≡ romBytes (shown .part)) where
+    same-rom : k ≡ romBytes (p .part)
+    same-rom = ek ∙ ap (λ (w : Shown). romBytes (w .part)) es
+
+    pub rom-refused : (length rom ≡ k → ⊥) → drawOutcome p picture drawing.WrongRom ≡ drawn p m rom picture
     unfolding drawn
-    rom-refused e = rw (eq-eqb _ _ em, ne-eqb _ _ e)
+    rom-refused e = rw (eq-eqb _ _ em, ← same-rom, ne-eqb _ _ e)
 
-    module _
-        (er : length rom ≡ romBytes) (shown : Shown) (es : shown ≡ shownOf p) (n : ℕ)
-        (asked : n ≡ pick (refused7 shown) 0 (pictureBytes (columnBytes shown)))
-      where
-        pub draw-refused-7 : n ≡ 0 → drawOutcome p picture drawing.NotBuilt ≡ drawn p m rom picture
+    module _ (er : length rom ≡ k) (n : ℕ) (asked : n ≡ pick (refused7 shown) 0 (pictureBytes (columnBytes shown))) where
+      whole-rom : eqb (length rom) (romBytes (p .part)) ≡ true
+      whole-rom = eq-eqb _ _ (er ∙ same-rom)
+
+      pub draw-refused-7 : n ≡ 0 → drawOutcome p picture drawing.NotBuilt ≡ drawn p m rom picture
+      unfolding drawn
+      draw-refused-7 z = rw (eq-eqb _ _ em, whole-rom, ← es, asked-none shown n asked z)
+
+      module _ (some : n ≡ 0 → ⊥) where
+        pub picture-refused : (length picture ≡ n → ⊥) → drawOutcome p picture drawing.WrongPicture ≡ drawn p m rom picture
         unfolding drawn
-        draw-refused-7 z = rw (eq-eqb _ _ em, eq-eqb _ _ er, ← es, asked-none shown n asked z)
+        picture-refused e =
+            rw (eq-eqb _ _ em, whole-rom, ← es, asked-some shown n asked some, ← asked-length shown n asked some, ne-eqb _ _ e)
 
-        module _ (some : n ≡ 0 → ⊥) where
-          pub picture-refused : (length picture ≡ n → ⊥) → drawOutcome p picture drawing.WrongPicture ≡ drawn p m rom picture
+        module _ (ep : length picture ≡ n) (b8 : Bool) (e8 : b8 ≡ refused8 shown) where
+          pub draw-refused-8 : b8 ≡ true → drawOutcome p picture drawing.LowOrigin ≡ drawn p m rom picture
           unfolding drawn
-          picture-refused e =
-              rw (eq-eqb _ _ em, eq-eqb _ _ er, ← es, asked-some shown n asked some, ← asked-length shown n asked some, ne-eqb _ _ e)
+          draw-refused-8 t =
+              rw (eq-eqb _ _ em, whole-rom, ← es, asked-some shown n asked some, ← asked-length shown n asked some, eq-eqb _ _ ep, ← e8, t)
 
-          module _ (ep : length picture ≡ n) (b8 : Bool) (e8 : b8 ≡ refused8 shown) where
-            pub draw-refused-8 : b8 ≡ true → drawOutcome p picture drawing.LowOrigin ≡ drawn p m rom picture
-            unfolding drawn
-            draw-refused-8 t =
-                rw (eq-eqb _ _ em, eq-eqb _ _ er, ← es, asked-some shown n asked some, ← asked-length shown n asked some, eq-eqb _ _ ep, ← e8, t)
-
-            pub draw-done :
-                b8 ≡ false → (after : List ℕ) (rows : ℕ) → after ≡ redrawn (p .marks) picture m rom shown → rows ≡ markedRows (p .marks) 25 →
-                drawOutcome (withMarks p noneMarked) after (drawing.Accepted rows) ≡ drawn p m rom picture
-            unfolding drawn drawnPage
-            draw-done f8 after rows ea en =
-                rw (
-                  ea,
-                  en,
-                  eq-eqb _ _ em,
-                  eq-eqb _ _ er,
-                  ← es,
-                  asked-some shown n asked some,
-                  ← asked-length shown n asked some,
-                  eq-eqb _ _ ep,
-                  ← e8,
-                  f8,
-                )
+          pub draw-done :
+              b8 ≡ false → (after : List ℕ) (rows : ℕ) → after ≡ redrawn (p .marks) picture m rom shown → rows ≡ markedRows (p .marks) 25 →
+              drawOutcome (withMarks p noneMarked) after (drawing.Accepted rows) ≡ drawn p m rom picture
+          unfolding drawn drawnPage
+          draw-done f8 after rows ea en =
+              rw (
+                ea,
+                en,
+                eq-eqb _ _ em,
+                whole-rom,
+                ← es,
+                asked-some shown n asked some,
+                ← asked-length shown n asked some,
+                eq-eqb _ _ ep,
+                ← e8,
+                f8,
+              )
 
 -- IND written: an equal value, MAT in 40 columns, and another value that a page is drawn by
 module _ (p : Processor) (r : ℕ) where

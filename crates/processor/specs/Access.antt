@@ -8,12 +8,12 @@ use lib.ListN.{length}
 use Rattle.basics.specs.Choice.{pick}
 use Rattle.basics.specs.Bits.{bits, isSet}
 use Rattle.address.specs.Addresses.{isIllegal, isNotFitted, byteAddresses, codeAddresses, narrowAddresses, someAddress}
-use Rattle.address.specs.Boards.{bytesOf}
+use Rattle.board.specs.Boards.{bytesOf}
 use Rattle.address.specs.declared.answer.Address.{Address}
 use Rattle.command.specs.declared.Command as command
 use Rattle.command.specs.declared.answer.Answer.{Answer}
 use Rattle.command.specs.declared.answer.Answer.the-variants.{Accepted, WrongMemory, WrongAddress, NotListed, BadPointer, WrongPhase, NotFitted}
-use Rattle.command.specs.Commands.{commandOf}
+use Rattle.command.specs.Commands.{commandFor}
 use Rattle.reading.specs.Marks.{phaseMarks}
 use Rattle.processor.specs.declared.state.Processor.{Processor}
 use Rattle.processor.specs.declared.execute.Answered.{Answered}
@@ -82,7 +82,7 @@ ran c v k =
 
 -- bit 3 of the address asks for execution
 unfoldable pub executed : ℕ → ℕ → Chip → Outcome
-executed address v k = pick (isSet 3 address) (ran (commandOf (registerOf (k .processor) 0)) v k) (outcome k (Accepted v))
+executed address v k = pick (isSet 3 address) (ran (commandFor (k .processor .part) (registerOf (k .processor) 0)) v k) (outcome k (Accepted v))
 
 -- 1 compares with the size of the board
 abbrev pub isWhole : Chip → Bool

@@ -5,7 +5,7 @@ use mathlib.Core.List.{List}
 use lib.Dec.{eqb}
 use lib.ListN.{length}
 use Rattle.basics.specs.Choice.{pick}
-use Rattle.address.specs.Boards.{bytesOf}
+use Rattle.board.specs.Boards.{bytesOf}
 use Rattle.shown.specs.Lengths.{romBytes, pictureBytes}
 use Rattle.shown.specs.Modes.{columnBytes}
 use Rattle.shown.specs.Refusals.{refused7, refused8}
@@ -41,7 +41,7 @@ drawnPage p m rom picture =
 unfoldable pub drawn : Processor → List ℕ → List ℕ → List ℕ → DrawOutcome
 drawn p m rom picture =
     pick (eqb (length m) (bytesOf (p .blocks)))
-    (pick (eqb (length rom) romBytes)
+    (pick (eqb (length rom) (romBytes (p .part)))
     (pick (refused7 (shownOf p)) (drawOutcome p picture NotBuilt)
     (pick (eqb (length picture) (pictureBytes (columnBytes (shownOf p))))
     (pick (refused8 (shownOf p)) (drawOutcome p picture LowOrigin)

@@ -13,7 +13,9 @@ use Rattle.processor.specs.States.{registerOf, withRegister, withLx}
 -- the main pointer, or the auxiliary one
 unfoldable pub pointerOf : Bool → Processor → Triple
 pointerOf auxiliary p =
-    pick auxiliary (auxiliaryPointer (registerOf p 4) (registerOf p 5) (registerOf p 6)) (mainPointer (registerOf p 6) (registerOf p 7))
+    pick auxiliary
+    (auxiliaryPointer (p .part) (registerOf p 4) (registerOf p 5) (registerOf p 6))
+    (mainPointer (p .part) (registerOf p 6) (registerOf p 7))
 
 -- X, bits 5..0 of a register: one more; from 39 X goes to 0. Y and the block stay
 unfoldable pub nextX : ℕ → ℕ

@@ -6,7 +6,9 @@ use mathlib.Core.List.{List, [], _∷_}
 use lib.Dec.{eqb}
 use lib.ListN.{getD, set}
 use Rattle.basics.specs.Choice.{pick, oneIf}
-use Rattle.address.specs.Boards.{fullBoard}
+use Rattle.board.specs.Boards.{fullBoard}
+use Rattle.board.specs.declared.Part.{Part}
+use Rattle.board.specs.declared.Part.the-variants.{Ef9345}
 use Rattle.shown.specs.declared.Shown.{Shown}
 use Rattle.shown.specs.Modes.{isEighty}
 use Rattle.page.specs.Marks.{allMarked}
@@ -17,16 +19,16 @@ abbrev pub registerOf : Processor → ℕ → ℕ
 registerOf p n = getD (p .registers) n 0
 
 -- what a page is drawn by: the indirect registers by r (TGS 1, MAT 2, PAT 3, DOR 4, ROR 7), the phase, and the board
-abbrev pub shownBy : List ℕ → ℕ → ℕ → Shown
-shownBy i phase blocks =
-    record { tgs = getD i 1 0; mat = getD i 2 0; pat = getD i 3 0; dor = getD i 4 0; ror = getD i 7 0; phase = phase; blocks = blocks }
+abbrev pub shownBy : List ℕ → ℕ → ℕ → Part → Shown
+shownBy i phase blocks part =
+    record { tgs = getD i 1 0; mat = getD i 2 0; pat = getD i 3 0; dor = getD i 4 0; ror = getD i 7 0; phase = phase; blocks = blocks; part = part }
 
 abbrev pub shownOf : Processor → Shown
-shownOf p = shownBy (p .indirect) (p .phase) (p .blocks)
+shownOf p = shownBy (p .indirect) (p .phase) (p .blocks) (p .part)
 
--- Power-up of a board of so many blocks: all registers and both LX bits 0, command 91 hex, phase 0, every row marked
-unfoldable pub poweredUp : ℕ → Processor
-poweredUp blocks =
+-- Power-up of a part with so many blocks: all registers and both LX bits 0, command 91 hex, phase 0, every row marked
+unfoldable pub poweredUp : Part → ℕ → Processor
+poweredUp part blocks =
     record {
       registers = 0x91 ∷ 0 ∷ 0 ∷ 0 ∷ 0 ∷ 0 ∷ 0 ∷ 0 ∷ [];
       indirect = 0 ∷ 0 ∷ 0 ∷ 0 ∷ 0 ∷ 0 ∷ 0 ∷ 0 ∷ [];
@@ -35,27 +37,28 @@ poweredUp blocks =
       phase = 0;
       marks = allMarked;
       blocks = blocks;
+      part = part;
     }
 
--- of which nothing else is said: 16 blocks
+-- of which nothing else is said: an EF9345 with 16 blocks
 abbrev pub powerUp : Processor
-powerUp = poweredUp fullBoard
+powerUp = poweredUp Ef9345 fullBoard
 
 -- the state with one part other
 abbrev pub withRegisters : Processor → List ℕ → Processor
-withRegisters p l = record { registers = l; indirect = p .indirect; lxm = p .lxm; lxa = p .lxa; phase = p .phase; marks = p .marks; blocks = p .blocks }
+withRegisters p l = record { registers = l; indirect = p .indirect; lxm = p .lxm; lxa = p .lxa; phase = p .phase; marks = p .marks; blocks = p .blocks; part = p .part }
 
 abbrev pub withLx : Processor → Bool → Bool → Processor
-withLx p m a = record { registers = p .registers; indirect = p .indirect; lxm = m; lxa = a; phase = p .phase; marks = p .marks; blocks = p .blocks }
+withLx p m a = record { registers = p .registers; indirect = p .indirect; lxm = m; lxa = a; phase = p .phase; marks = p .marks; blocks = p .blocks; part = p .part }
 
 abbrev pub withMarks : Processor → List Bool → Processor
-withMarks p l = record { registers = p .registers; indirect = p .indirect; lxm = p .lxm; lxa = p .lxa; phase = p .phase; marks = l; blocks = p .blocks }
+withMarks p l = record { registers = p .registers; indirect = p .indirect; lxm = p .lxm; lxa = p .lxa; phase = p .phase; marks = l; blocks = p .blocks; part = p .part }
 
 abbrev pub withIndirect : Processor → List ℕ → List Bool → Processor
-withIndirect p i l = record { registers = p .registers; indirect = i; lxm = p .lxm; lxa = p .lxa; phase = p .phase; marks = l; blocks = p .blocks }
+withIndirect p i l = record { registers = p .registers; indirect = i; lxm = p .lxm; lxa = p .lxa; phase = p .phase; marks = l; blocks = p .blocks; part = p .part }
 
 abbrev pub withPhase : Processor → ℕ → List Bool → Processor
-withPhase p n l = record { registers = p .registers; indirect = p .indirect; lxm = p .lxm; lxa = p .lxa; phase = n; marks = l; blocks = p .blocks }
+withPhase p n l = record { registers = p .registers; indirect = p .indirect; lxm = p .lxm; lxa = p .lxa; phase = n; marks = l; blocks = p .blocks; part = p .part }
 
 -- register n written
 abbrev pub withRegister : Processor → ℕ → ℕ → Processor

@@ -4,14 +4,14 @@ ghost use mathlib.Core.Bool.{not, _||_};
 ghost use lib.Dec.{eqb};
 ghost use Rattle.basics.specs.Bits.{bits};
 ghost use Rattle.basics.specs.Choice.{pick};
-ghost use Rattle.address.specs.Boards.{bytesOf};
+ghost use Rattle.board.specs.Boards.{bytesOf};
 ghost use Rattle.command.specs.declared.answer.Answer.the-variants.{WrongMemory, WrongAddress};
 ghost use Rattle.processor.specs.States.{chip};
 ghost use Rattle.processor.specs.Access.{outcomeOf, written, readOut, turned};
 use crate::execute::Answered;
 use crate::execute::execute;
 use crate::state::Processor;
-use address::board::bytes_of;
+use board::bytes_of;
 use command::answer::Answer;
 use phases::phase::phase_marks;
 

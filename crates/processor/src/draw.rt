@@ -2,10 +2,9 @@
 ghost use mathlib.Core.Path.{_≡_};
 ghost use Rattle.processor.specs.Draws.{drawOutcomeOf, drawn};
 use crate::state::Processor;
-use address::board::bytes_of;
+use board::bytes_of;
 use command::answer::Drawing;
 use picture::redraw::redraw;
-use shown::length::ROM_BYTES;
 
 // The state after a draw, with the answer.
 pub struct Drawn {
@@ -31,10 +30,10 @@ impl Processor {
         if memory.len() != bytes_of(self.blocks) {
             return refused(self, Drawing::WrongMemory);
         }
-        if rom.len() != ROM_BYTES {
+        let shown = self.shown();
+        if rom.len() != shown.rom_asked() {
             return refused(self, Drawing::WrongRom);
         }
-        let shown = self.shown();
         let asked = shown.picture_asked();
         if asked == 0 {
             return refused(self, Drawing::NotBuilt);

@@ -3,7 +3,7 @@ ghost use mathlib.Core.Path.{_≡_};
 ghost use mathlib.Core.Bool.{false};
 ghost use Prim.Native.Nat.{_%_};
 ghost use lib.ListN.{length};
-ghost use Rattle.address.specs.Boards.{bytesOf};
+ghost use Rattle.board.specs.Boards.{bytesOf};
 ghost use Rattle.command.specs.Commands.{Asked};
 ghost use Rattle.processor.specs.States.{chip};
 ghost use Rattle.processor.specs.Access.{outcomeOf, isUnlisted, isAstray, isUnfitted, ran, executed};
@@ -17,7 +17,7 @@ use address::fitted::is_narrow_fitted;
 use address::triple::is_legal;
 use command::Command;
 use command::answer::Answer;
-use command::command_of;
+use command::command_for;
 
 // The state after an access, with the answer.
 pub struct Answered {
@@ -129,7 +129,8 @@ pub fn execute(p: Processor, memory: &mut [u8], address: u8, value: u8) -> Answe
 {
     if address / 8 % 2 == 1 {
         let registers = p.registers;
-        let command = command_of(registers[0]);
+        let part = p.part;
+        let command = command_for(part, registers[0]);
         return run_command(p, memory, command, value);
     }
     Answered {

@@ -7,15 +7,16 @@ use address::pointer::auxiliary_pointer;
 use address::pointer::main_pointer;
 use address::triple::Triple;
 
-// The auxiliary pointer's Z3 stands in R6.
+// The Z3 of an EF9345's auxiliary pointer stands in R6.
 pub fn pointer(p: Processor, auxiliary: bool) -> Triple
     ensures { λ r. ⌜ r ≡ pointerOf auxiliary p ⌝ }
 {
     let registers = p.registers;
+    let part = p.part;
     if auxiliary {
-        return auxiliary_pointer(registers[4], registers[5], registers[6]);
+        return auxiliary_pointer(part, registers[4], registers[5], registers[6]);
     }
-    main_pointer(registers[6], registers[7])
+    main_pointer(part, registers[6], registers[7])
 }
 
 // A byte that came out of an array, with its range: the contract tells it.

@@ -1,10 +1,13 @@
-// Power-up, of a board of 16 blocks or of one that the caller names.
+// Power-up, of an EF9345 with 16 blocks or of a board that the caller names.
 ghost use mathlib.Core.Path.{_≡_};
 ghost use Rattle.processor.specs.States.{poweredUp, powerUp};
 ghost use Rattle.processor.specs.PowerUps.{poweredUpBoard};
 use crate::state::Processor;
-use address::board::BLOCKS;
-use address::board::is_board;
+use board::BLOCKS;
+use board::Part;
+use board::is_board;
+use board::is_part;
+use board::part_named;
 use command::answer::PowerUp;
 
 // The state after a power-up, with the answer.
@@ -13,9 +16,9 @@ pub struct PoweredUp {
     pub answer: PowerUp,
 }
 
-// The state of a board of so many blocks.
-fn powered_up(blocks: u8) -> Processor
-    ensures { λ r. ⌜ r ≡ poweredUp blocks ⌝ }
+// The state of a part with so many blocks.
+fn powered_up(part: Part, blocks: u8) -> Processor
+    ensures { λ r. ⌜ r ≡ poweredUp part blocks ⌝ }
 {
     Processor {
         registers: [0x91, 0, 0, 0, 0, 0, 0, 0],
@@ -25,6 +28,7 @@ fn powered_up(blocks: u8) -> Processor
         phase: 0,
         marks: [true; 25],
         blocks,
+        part,
     }
 }
 
@@ -32,21 +36,28 @@ impl Processor {
     pub fn power_up() -> Self
         ensures { λ r. ⌜ r ≡ powerUp ⌝ }
     {
-        powered_up(BLOCKS)
+        powered_up(Part::Ef9345, BLOCKS)
     }
 
-    // A number that names no board is refused, with the state of the 16 block board.
-    pub fn power_up_board(blocks: u8) -> PoweredUp
-        ensures { λ r. ⌜ r ≡ poweredUpBoard blocks ⌝ }
+    // A number that names no part, or blocks that it has not, are refused, with the state of the 16 block board.
+    pub fn power_up_board(part: u8, blocks: u8) -> PoweredUp
+        ensures { λ r. ⌜ r ≡ poweredUpBoard part blocks ⌝ }
     {
-        if is_board(blocks) {
+        if !is_part(part) {
             return PoweredUp {
-                processor: powered_up(blocks),
+                processor: powered_up(Part::Ef9345, BLOCKS),
+                answer: PowerUp::UnknownPart,
+            };
+        }
+        let named = part_named(part);
+        if is_board(named, blocks) {
+            return PoweredUp {
+                processor: powered_up(named, blocks),
                 answer: PowerUp::Accepted,
             };
         }
         PoweredUp {
-            processor: powered_up(BLOCKS),
+            processor: powered_up(Part::Ef9345, BLOCKS),
             answer: PowerUp::WrongBoard,
         }
     }

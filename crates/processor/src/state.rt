@@ -2,9 +2,12 @@
 ghost use mathlib.Core.Path.{_≡_};
 ghost use Prim.Native.Nat.{_%_};
 ghost use Rattle.processor.specs.States.{statusOf, withRegister, registerRead, cleared, indirectRead, indirectWritten, shownOf};
+use board::Part;
 use shown::Shown;
 
 pub struct Processor {
+    // First, since behind the arrays it costs a command that stores forty instructions more.
+    pub part: Part,
     // R0 is the command.
     pub registers: [u8; 8],
     // By r: 1 TGS, 2 MAT, 3 PAT, 4 DOR, 7 ROR.
@@ -104,6 +107,7 @@ impl Processor {
             ror: self.indirect[7],
             phase: self.phase,
             blocks: self.blocks,
+            part: self.part,
         }
     }
 }

@@ -10,7 +10,7 @@ use borrow.Author.Tests.{ne-eqb}
 use Rattle.basics.proofs.Choice.{bool-cases, lt-or-le}
 use Rattle.basics.proofs.Below.{any-never}
 use Rattle.address.specs.Addresses.{addressOf, isAt}
-use Rattle.address.specs.Boards.{bytesOf}
+use Rattle.board.specs.Boards.{bytesOf}
 use Rattle.address.specs.Places.{placeAt}
 use Rattle.address.specs.Slices.{sliceAt, sliceAddress}
 use Rattle.address.specs.Triples.{legal}
@@ -56,7 +56,7 @@ module _ (shown : Shown) (m : List ℕ) (p : ℕ) (past : bytesOf (shown .blocks
 
   off-cell : (code : List ℕ) → cellHolds shown p code ≡ false
   unfolding cellHolds
-  off-cell code = off-source (shown .blocks) p past (characterOf (decoded code)) (cellSource shown (decoded code))
+  off-cell code = off-source (shown .blocks) p past (characterOf (decoded (shown .part) code)) (cellSource shown (decoded (shown .part) code))
 
   off-slices : (r : ℕ) → slicesHold shown m p r ≡ false
   unfolding slicesHold

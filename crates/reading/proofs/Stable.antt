@@ -65,7 +65,7 @@ module _ (shown : Shown) (m n : List ℕ) where
 
   tall-same : (r : ℕ) → Own r → hasTall shown m r ≡ hasTall shown n r
   unfolding hasTall
-  tall-same r own = any-same _ _ 40 (λ x l. ap isTall (code-same r x own l))
+  tall-same r own = any-same _ _ 40 (λ x l. ap (isTall (shown .part)) (code-same r x own l))
 
   -- where row k + 1 has a double height cell, what it reaches above holds row k and what k reaches
   pub own-above : (k : ℕ) → hasTall shown m (suc k) ≡ true → Up (suc k) → Own k

@@ -28,9 +28,9 @@ abbrev pub sourceHolds : ℕ → ℕ → ℕ → Source → Bool
 sourceHolds blocks p c (Rom set) = false
 sourceHolds blocks p c (Block z) = anyBelow (λ n. isAt p (sliceAddress blocks c n z)) 10
 
--- all ten slices of a user or quadrichrome cell
+-- all ten slices of a user or quadrichrome cell (a Q cell of a TS9347 is a user one)
 unfoldable pub cellHolds : Shown → ℕ → List ℕ → Bool
-cellHolds shown p code = sourceHolds (shown .blocks) p (characterOf (decoded code)) (cellSource shown (decoded code))
+cellHolds shown p code = sourceHolds (shown .blocks) p (characterOf (decoded (shown .part) code)) (cellSource shown (decoded (shown .part) code))
 
 -- of each user or quadrichrome cell in it
 unfoldable pub slicesHold : Shown → List ℕ → ℕ → ℕ → Bool
@@ -38,7 +38,7 @@ slicesHold shown m p r = anyBelow (λ x. cellHolds shown p (codeAt shown m r x))
 
 -- row r has a double height bichrome cell
 unfoldable pub hasTall : Shown → List ℕ → ℕ → Bool
-hasTall shown m r = anyBelow (λ x. isTall (codeAt shown m r x)) 40
+hasTall shown m r = anyBelow (λ x. isTall (shown .part) (codeAt shown m r x)) 40
 
 -- and, if r is not 0 and has a double height bichrome cell, the 120 bytes of row r − 1, and so upward while the row added has one too
 unfoldable pub aboveHolds : Shown → List ℕ → ℕ → ℕ → Bool

@@ -59,7 +59,7 @@ narrowStores t c a =
 
 -- a column with a bichrome cell whose A3 is set; in 80 columns, with a cell that has C7 = 0 and the flash bit
 abbrev pub columnFlashes : Shown → List ℕ → Bool
-columnFlashes shown code = pick (isEighty shown) (pairFlashes code) (flashes code)
+columnFlashes shown code = pick (isEighty shown) (pairFlashes code) (flashes (shown .part) code)
 
 -- row r has one
 unfoldable pub flashIn : Shown → List ℕ → ℕ → Bool

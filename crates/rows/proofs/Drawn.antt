@@ -42,7 +42,7 @@ module _
         → pixelsOn m rom shown cells lowers rights n x ≡ paintedCell rom shown n (getD (inputsOf m shown cells lowers) x noInput)
     unfolding slicesOf inputAt
     drawn-cell n x h l =
-        let cell = decoded (getD cells x []) in
+        let cell = decoded (shown .part) (getD cells x []) in
         let lower = getD lowers x false in
         let number = sliceShown cell lower n in
         let right : getD rights x false ≡ rightIn cells x = ap (λ (z : List Bool). getD z x false) is-rights ∙ table-at (rightIn cells) 40 x false l in
@@ -51,11 +51,11 @@ module _
         ∙ ap (paintedCell rom shown n) (sym (table-at (inputAt m shown cells lowers) 40 x noInput l))
 
     pub drawn-row :
-        (tens pairs part : List ℕ) → tens ≡ tensOf m rom shown cells lowers rights → pairs ≡ pairsOf cells shown
-        → part ≡ joined (lineOn cells lowers tens pairs) 10 → part ≡ painted rom shown (inputsOf m shown cells lowers)
+        (tens pairs lent : List ℕ) → tens ≡ tensOf m rom shown cells lowers rights → pairs ≡ pairsOf cells shown
+        → lent ≡ joined (lineOn (shown .part) cells lowers tens pairs) 10 → lent ≡ painted rom shown (inputsOf m shown cells lowers)
     unfolding painted paintedLine
-    drawn-row tens pairs part is-tens is-pairs is-part =
-        is-part
+    drawn-row tens pairs lent is-tens is-pairs is-lent =
+        is-lent
         ∙ joined-same _ _ 10
         (λ n h.
         drawn-line m rom shown cells lowers rights m-small rom-small tens pairs is-tens is-pairs n h

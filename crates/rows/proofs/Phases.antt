@@ -9,6 +9,7 @@ use Rattle.basics.specs.Choice.{pick}
 use Rattle.basics.specs.Bits.{isSet}
 use Rattle.basics.specs.Below.{anyBelow}
 use Rattle.basics.proofs.Below.{any-not}
+use Rattle.board.specs.declared.Part.{Part}
 use Rattle.shown.specs.declared.Shown.{Shown}
 use Rattle.cell.specs.declared.kind.BichromeCell.{BichromeCell}
 use Rattle.cell.specs.declared.kind.Cell.the-variants.{Bichrome, Quadrichrome}
@@ -19,23 +20,25 @@ use Rattle.rows.specs.Rows.{painted}
 use Rattle.rows.proofs.Alike.{Alike, painted-alike}
 
 -- some cell of a row flashes
-abbrev pub anyFlashes : List CellInput → Bool
-anyFlashes inputs = anyBelow (λ x. flashes (getD inputs x noInput .code)) 40
+abbrev pub anyFlashes : Part → List CellInput → Bool
+anyFlashes part inputs = anyBelow (λ x. flashes part (getD inputs x noInput .code)) 40
 
 module _ (a b : Shown) (pat : a .pat ≡ b .pat) where
   dyed-steady : (cell : BichromeCell) → cell .flash ≡ false → (t : Bool) → dyed cell a t ≡ dyed cell b t
   unfolding concealed flashed
   dyed-steady cell e t = rw (e, pat)
 
-  cell-steady : (c b′ a′ : ℕ) → (not (isQuadrichrome b′) && isSet 3 a′) ≡ false → Alike a b (cellOf c b′ a′)
+  cell-steady : (part : Part) (c b′ a′ : ℕ) → (not (isQuadrichrome part b′) && isSet 3 a′) ≡ false → Alike a b (cellOf part c b′ a′)
   unfolding cellOf bichromeOf
-  cell-steady c b′ a′ e = go (isQuadrichrome b′) e
+  cell-steady part c b′ a′ e = go (isQuadrichrome part b′) e
     where
-      go : (q : Bool) → (not q && isSet 3 a′) ≡ false → Alike a b (pick q (Quadrichrome (quadrichromeOf c b′ a′)) (Bichrome (bichromeOf c b′ a′)))
+      go : (q : Bool) → (not q && isSet 3 a′) ≡ false → Alike a b (pick q (Quadrichrome (quadrichromeOf c b′ a′)) (Bichrome (bichromeOf part c b′ a′)))
       go true f = tt
-      go false f = dyed-steady (bichromeOf c b′ a′) f
+      go false f = dyed-steady (bichromeOf part c b′ a′) f
 
-  pub painted-steady : (rom : List ℕ) (inputs : List CellInput) → anyFlashes inputs ≡ false → painted rom a inputs ≡ painted rom b inputs
+  pub painted-steady :
+      a .part ≡ b .part → (rom : List ℕ) (inputs : List CellInput) → anyFlashes (a .part) inputs ≡ false → painted rom a inputs ≡ painted rom b inputs
   unfolding flashes
-  painted-steady rom inputs none =
-      painted-alike a b rom inputs (λ x l. cell-steady _ _ _ (any-not (λ x. flashes (getD inputs x noInput .code)) 40 x none l))
+  painted-steady part rom inputs none =
+      painted-alike a b part rom inputs
+      (λ x l. cell-steady (a .part) _ _ _ (any-not (λ x. flashes (a .part) (getD inputs x noInput .code)) 40 x none l))

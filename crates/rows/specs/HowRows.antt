@@ -16,7 +16,8 @@ unfoldable pub inputAt : List ℕ → Shown → List (List ℕ) → List Bool �
 inputAt m shown cells lowers x =
     record {
       code = getD cells x [];
-      slices = takenFrom (shown .blocks) m (characterOf (decoded (getD cells x []))) (cellSource shown (decoded (getD cells x [])));
+      slices =
+          takenFrom (shown .blocks) m (characterOf (decoded (shown .part) (getD cells x []))) (cellSource shown (decoded (shown .part) (getD cells x [])));
       lower = getD lowers x false;
       right = rightIn cells x;
     }

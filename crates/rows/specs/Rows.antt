@@ -18,7 +18,7 @@ cellLineAt rom shown cell slices lower right n =
     cellLine cell shown right (sliceShown cell lower n) (sliceByte rom (characterOf cell) slices (sliceShown cell lower n))
 
 abbrev pub paintedCell : List ℕ → Shown → ℕ → CellInput → List ℕ
-paintedCell rom shown n input = cellLineAt rom shown (decoded (input .code)) (input .slices) (input .lower) (input .right) n
+paintedCell rom shown n input = cellLineAt rom shown (decoded (shown .part) (input .code)) (input .slices) (input .lower) (input .right) n
 
 -- One packed line is 160 bytes: forty cells of four bytes
 unfoldable pub paintedLine : List ℕ → Shown → List CellInput → ℕ → List ℕ

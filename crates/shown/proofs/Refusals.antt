@@ -1,7 +1,7 @@
 -- Laws of the refusals: the bits of TGS and PAT as comparisons, and the length that 6 asks for.
 -- Assumes nothing.
 use Prim.Native.Nat.{ℕ, _+_, _*_, _/_, _≤_, _<_}
-use mathlib.Core.Path.{_≡_, sym, ap, _∙_}
+use mathlib.Core.Path.{_≡_, refl, sym, ap, _∙_}
 use mathlib.Core.Bool.{Bool, true, false, not, _&&_, _||_}
 use lib.Dec.{ltb, leb, eqb}
 use native.Mathlib.Omega.{arith}
@@ -10,23 +10,30 @@ use Rattle.basics.specs.Bits.{isSet}
 use Rattle.basics.specs.Choice.{pick}
 use Rattle.basics.proofs.Choice.{pick-known}
 use Rattle.basics.proofs.Computed.{agree-test}
+use Rattle.board.specs.declared.Part.{Part}
+use Rattle.board.specs.declared.Part.the-variants.{Ef9345, Ts9347}
 use Rattle.shown.specs.declared.Shown.{Shown}
 use Rattle.shown.specs.Lengths.{fortyBytes, eightyBytes, pictureBytes}
-use Rattle.shown.specs.Modes.{isEighty, columnBytes}
+use Rattle.shown.specs.Modes.{hasEighty, isEighty, columnBytes}
 use Rattle.shown.specs.Origins.{yorOf}
 use Rattle.shown.specs.Refusals.{refused7, refused8, canDraw}
-use Rattle.shown.proofs.Modes.{eighty-test, eighty-bytes, forty-bytes}
+use Rattle.shown.proofs.Modes.{forty-tgs, eighty-part, eighty-bytes, forty-bytes}
 
--- what TGS says of 7: bits 7 and 6 one without the other, or bit 5
+-- what TGS says of 7: bits 7 and 6 one without the other, or bit 5; without 80 columns any of the three
 tgs-bits :
-    (p : Bool) (tgs : ℕ) → tgs < 256
-    → pick (isSet 7 tgs && isSet 6 tgs) (isSet 5 tgs || p) (isSet 7 tgs || (isSet 6 tgs || (isSet 5 tgs || p))) ≡ ((leb 32 tgs && not (eqb (tgs / 32) 6)) || p)
-tgs-bits true =
+    (part : Part) (p : Bool) (tgs : ℕ) → tgs < 256
+    → pick (hasEighty part && (isSet 7 tgs && isSet 6 tgs)) (isSet 5 tgs || p) (isSet 7 tgs || (isSet 6 tgs || (isSet 5 tgs || p)))
+    ≡ ((leb 32 tgs && not (hasEighty part && eqb (tgs / 32) 6)) || p)
+tgs-bits Ef9345 true =
     agree-test (λ tgs. pick (isSet 7 tgs && isSet 6 tgs) (isSet 5 tgs || true) (isSet 7 tgs || (isSet 6 tgs || (isSet 5 tgs || true))))
     (λ tgs. (leb 32 tgs && not (eqb (tgs / 32) 6)) || true) 256 tt
-tgs-bits false =
+tgs-bits Ef9345 false =
     agree-test (λ tgs. pick (isSet 7 tgs && isSet 6 tgs) (isSet 5 tgs || false) (isSet 7 tgs || (isSet 6 tgs || (isSet 5 tgs || false))))
     (λ tgs. (leb 32 tgs && not (eqb (tgs / 32) 6)) || false) 256 tt
+tgs-bits Ts9347 true =
+    agree-test (λ tgs. isSet 7 tgs || (isSet 6 tgs || (isSet 5 tgs || true))) (λ tgs. (leb 32 tgs && true) || true) 256 tt
+tgs-bits Ts9347 false =
+    agree-test (λ tgs. isSet 7 tgs || (isSet 6 tgs || (isSet 5 tgs || false))) (λ tgs. (leb 32 tgs && true) || false) 256 tt
 
 -- PAT bit 7
 pat-bit : (pat : ℕ) → pat < 256 → isSet 7 pat ≡ leb 128 pat
@@ -34,22 +41,39 @@ pat-bit = agree-test (λ pat. isSet 7 pat) (λ pat. leb 128 pat) 256 tt
 
 module _ (shown : Shown) where
   module _ (h : shown .tgs < 256) (k : shown .pat < 256) where
-    refused-test : ((leb 32 (shown .tgs) && not (eqb (shown .tgs / 32) 6)) || leb 128 (shown .pat)) ≡ refused7 shown
+    refused-test :
+        ((leb 32 (shown .tgs) && not (hasEighty (shown .part) && eqb (shown .tgs / 32) 6)) || leb 128 (shown .pat)) ≡ refused7 shown
     unfolding refused7 isEighty
     refused-test =
-        sym (tgs-bits (isSet 7 (shown .pat)) (shown .tgs) h
-        ∙ ap (λ (t : Bool). (leb 32 (shown .tgs) && not (eqb (shown .tgs / 32) 6)) || t) (pat-bit (shown .pat) k))
+        sym (tgs-bits (shown .part) (isSet 7 (shown .pat)) (shown .tgs) h
+        ∙ ap (λ (t : Bool). (leb 32 (shown .tgs) && not (hasEighty (shown .part) && eqb (shown .tgs / 32) 6)) || t) (pat-bit (shown .pat) k))
 
     -- no mode
     refused-tgs : 32 ≤ shown .tgs → (shown .tgs / 32 ≡ 6 → ⊥) → true ≡ refused7 shown
-    refused-tgs l n = sym (rw (le-leb 32 (shown .tgs) l, ne-eqb (shown .tgs / 32) 6 n)) ∙ refused-test
+    refused-tgs l n = sym (rw (le-leb 32 (shown .tgs) l, ne-eqb (shown .tgs / 32) 6 n, none (shown .part))) ∙ refused-test
+      where
+        none : (part : Part) → (hasEighty part && false) ≡ false
+        none Ef9345 = refl
+        none Ts9347 = refl
+
+    -- nor 80 columns
+    refused-part : 32 ≤ shown .tgs → hasEighty (shown .part) ≡ false → true ≡ refused7 shown
+    refused-part l e = sym (rw (le-leb 32 (shown .tgs) l, e)) ∙ refused-test
 
     -- either mode
-    refused-eighty : 32 ≤ shown .tgs → shown .tgs / 32 ≡ 6 → leb 128 (shown .pat) ≡ refused7 shown
-    refused-eighty l e = sym (rw (le-leb 32 (shown .tgs) l, eq-eqb (shown .tgs / 32) 6 e)) ∙ refused-test
+    refused-eighty : 32 ≤ shown .tgs → shown .tgs / 32 ≡ 6 → hasEighty (shown .part) ≡ true → leb 128 (shown .pat) ≡ refused7 shown
+    refused-eighty l e has = sym (rw (le-leb 32 (shown .tgs) l, eq-eqb (shown .tgs / 32) 6 e, has)) ∙ refused-test
 
     refused-forty : shown .tgs < 32 → leb 128 (shown .pat) ≡ refused7 shown
     refused-forty l = sym (rw (lt-leb 32 (shown .tgs) l)) ∙ refused-test
+
+    -- PAT 7, in every mode
+    refused-pat : 128 ≤ shown .pat → true ≡ refused7 shown
+    refused-pat l = sym (rw (le-leb 128 (shown .pat) l, every (leb 32 (shown .tgs) && not (hasEighty (shown .part) && eqb (shown .tgs / 32) 6)))) ∙ refused-test
+      where
+        every : (b : Bool) → (b || true) ≡ true
+        every true = refl
+        every false = refl
 
     -- the length that 6 asks for, in the ways of the code
     abbrev asks : ℕ → Type 0
@@ -61,23 +85,24 @@ module _ (shown : Shown) where
     pub asks-forty : (n : ℕ) → n ≡ pictureBytes fortyBytes → shown .tgs < 32 → shown .pat < 128 → asks n
     asks-forty n e l p =
         let no = sym (refused-forty l) ∙ lt-leb 128 (shown .pat) p in
-        let forty = sym (eighty-test shown h) ∙ lt-leb 192 (shown .tgs) (omega arith) in
+        let forty = sym (forty-tgs shown (omega arith)) in
         e ∙ rw (no, forty-bytes shown forty)
 
-    pub asks-eighty : (n : ℕ) → n ≡ pictureBytes eightyBytes → 32 ≤ shown .tgs → shown .tgs / 32 ≡ 6 → shown .pat < 128 → asks n
-    asks-eighty n e l d p =
-        let no = sym (refused-eighty l d) ∙ lt-leb 128 (shown .pat) p in
-        let eighty = sym (eighty-test shown h) ∙ le-leb 192 (shown .tgs) (omega arith) in
+    pub asks-eighty :
+        (n : ℕ) → n ≡ pictureBytes eightyBytes → 32 ≤ shown .tgs → shown .tgs / 32 ≡ 6 → shown .pat < 128 → hasEighty (shown .part) ≡ true → asks n
+    asks-eighty n e l d p has =
+        let no = sym (refused-eighty l d has) ∙ lt-leb 128 (shown .pat) p in
+        let eighty = sym (eighty-part shown (omega arith) h) ∙ has in
         e ∙ rw (no, eighty-bytes shown eighty)
 
     pub asks-no-mode : 32 ≤ shown .tgs → (shown .tgs / 32 ≡ 6 → ⊥) → asks 0
     asks-no-mode l n = nothing (sym (refused-tgs l n))
 
-    pub asks-forty-refused : shown .tgs < 32 → 128 ≤ shown .pat → asks 0
-    asks-forty-refused l p = nothing (sym (refused-forty l) ∙ le-leb 128 (shown .pat) p)
+    pub asks-no-eighty : 32 ≤ shown .tgs → hasEighty (shown .part) ≡ false → asks 0
+    asks-no-eighty l e = nothing (sym (refused-part l e))
 
-    pub asks-eighty-refused : 32 ≤ shown .tgs → shown .tgs / 32 ≡ 6 → 128 ≤ shown .pat → asks 0
-    asks-eighty-refused l e p = nothing (sym (refused-eighty l e) ∙ le-leb 128 (shown .pat) p)
+    pub asks-refused : 128 ≤ shown .pat → asks 0
+    asks-refused p = nothing (sym (refused-pat p))
 
   -- no picture is of length 0, so 0 says 7
   some-length : 0 < pictureBytes (columnBytes shown)
@@ -114,6 +139,6 @@ module _ (shown : Shown) where
     draw-asked eight l e = rw (sym learnt ∙ e, l)
 
 -- what decides whether a draw would get 7 or 8
-pub can-draw-same : (a b : Shown) → a .tgs ≡ b .tgs → a .pat ≡ b .pat → a .ror ≡ b .ror → canDraw a ≡ canDraw b
+pub can-draw-same : (a b : Shown) → a .tgs ≡ b .tgs → a .part ≡ b .part → a .pat ≡ b .pat → a .ror ≡ b .ror → canDraw a ≡ canDraw b
 unfolding isEighty refused7 refused8 canDraw
-can-draw-same a b tgs pat ror = rw (tgs, pat, ror)
+can-draw-same a b tgs part pat ror = rw (tgs, part, pat, ror)

@@ -2,10 +2,13 @@
 -- of a column.
 -- Assumes nothing.
 use Prim.Native.Nat.{ℕ, _*_}
+use Rattle.board.specs.declared.Part.{Part}
+use Rattle.board.specs.declared.Part.the-variants.{Ef9345, Ts9347}
 
--- 5: ROM is not 6,400 bytes: five sets of 128 characters of ten slices
-abbrev pub romBytes : ℕ
-romBytes = 5 * 1280
+-- 5: ROM is not 6,400 bytes: five sets of 128 characters of ten slices; of a TS9347 three sets, 3,840 bytes
+abbrev pub romBytes : Part → ℕ
+romBytes Ef9345 = 5 * 1280
+romBytes Ts9347 = 3 * 1280
 
 -- in 40 columns a column is a cell of eight pixels, two pixels a byte
 abbrev pub fortyBytes : ℕ

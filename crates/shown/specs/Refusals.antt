@@ -8,7 +8,8 @@ use Rattle.shown.specs.declared.Shown.{Shown}
 use Rattle.shown.specs.Modes.{isEighty}
 use Rattle.shown.specs.Origins.{yorOf}
 
--- 7: TGS bits 7, 6 or 5, or PAT bit 7, not zero; with TGS 7 and 6 both set, it looks only at TGS 5 and PAT 7
+-- 7: TGS bits 7, 6 or 5, or PAT bit 7, not zero; with TGS 7 and 6 both set, it looks only at TGS 5 and PAT 7. (A TS9347 has no
+-- 80 columns, so that it is as in 40.)
 unfoldable pub refused7 : Shown → Bool
 refused7 shown =
     pick (isEighty shown) (isSet 5 (shown .tgs) || isSet 7 (shown .pat))

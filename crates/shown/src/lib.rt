@@ -4,11 +4,14 @@ pub mod length;
 ghost use mathlib.Core.Path.{_≡_};
 ghost use Rattle.basics.specs.Choice.{pick};
 ghost use Rattle.shown.specs.Modes.{isEighty, columnBytes};
-ghost use Rattle.shown.specs.Lengths.{pictureBytes};
+ghost use Rattle.shown.specs.Lengths.{romBytes, pictureBytes};
 ghost use Rattle.shown.specs.Origins.{yorOf, firstBlock};
 ghost use Rattle.shown.specs.Refusals.{refused7, refused8, canDraw};
 use crate::length::EIGHTY_PICTURE_BYTES;
 use crate::length::PICTURE_BYTES;
+use crate::length::ROM_BYTES;
+use crate::length::TS9347_ROM_BYTES;
+use board::Part;
 
 pub struct Shown {
     pub tgs: u8,
@@ -17,16 +20,35 @@ pub struct Shown {
     pub dor: u8,
     pub ror: u8,
     pub phase: u8,
-    // The board: how many blocks are fitted.
+    // The board: how many blocks are fitted, and its part.
     pub blocks: u8,
+    pub part: Part,
 }
 
 impl Shown {
-    // TGS bits 7 and 6 both set.
+    // TGS bits 7 and 6 both set, of an EF9345. TGS is asked first: in 40 columns it tells by itself.
     pub fn is_eighty(self) -> bool
         ensures { λ r. ⌜ r ≡ isEighty self ⌝ }
     {
-        192 <= self.tgs
+        if self.tgs < 192 {
+            return false;
+        }
+        let part = self.part;
+        match part {
+            Part::Ef9345 => true,
+            Part::Ts9347 => false,
+        }
+    }
+
+    // The length that 5 asks for.
+    pub fn rom_asked(self) -> usize
+        ensures { λ r. ⌜ r ≡ romBytes (self .part) ⌝ }
+    {
+        let part = self.part;
+        match part {
+            Part::Ef9345 => ROM_BYTES,
+            Part::Ts9347 => TS9347_ROM_BYTES,
+        }
     }
 
     // The length that 6 asks for: that of the mode, or 0 where 7 comes first. One way through for each mode, so that a draw asks for both at once.
@@ -45,7 +67,11 @@ impl Shown {
         if 128 <= self.pat {
             return 0;
         }
-        EIGHTY_PICTURE_BYTES
+        let part = self.part;
+        match part {
+            Part::Ef9345 => EIGHTY_PICTURE_BYTES,
+            Part::Ts9347 => 0,
+        }
     }
 
     // The origin, ROR bits 4..0.
@@ -59,7 +85,11 @@ impl Shown {
     pub fn first_block(self) -> u8
         ensures { λ r. ⌜ r ≡ firstBlock self ⌝ }
     {
-        self.ror / 32 * 2
+        let part = self.part;
+        match part {
+            Part::Ef9345 => self.ror / 32 * 2,
+            Part::Ts9347 => self.dor / 128 * 16 + self.ror / 32 * 2,
+        }
     }
 
     pub fn is_refused_7(self) -> bool

@@ -9,7 +9,7 @@ use lib.ListN.{length, getD}
 use Rattle.basics.specs.Parts.{table}
 use Rattle.basics.proofs.Parts.{table-same}
 use Rattle.address.specs.Addresses.{byteFrom}
-use Rattle.address.specs.Boards.{bytesOf}
+use Rattle.board.specs.Boards.{bytesOf}
 use Rattle.address.specs.Places.{placeOf, placeAt, byteAt}
 use Rattle.address.specs.Slices.{sliceX, sliceY, sliceAt, sliceAddress}
 use Rattle.address.specs.Triples.{legalY, legal}
@@ -17,33 +17,43 @@ use Rattle.address.proofs.Addresses.{address-illegal, byte-kept}
 use Rattle.address.proofs.Laws.{good-column}
 use Rattle.address.proofs.Places.{place-fits}
 use Rattle.shown.specs.declared.Shown.{Shown}
+use Rattle.board.specs.declared.Part.{Part}
+use Rattle.board.specs.declared.Part.the-variants.{Ef9345, Ts9347}
+use Rattle.shown.specs.Lengths.{romBytes}
 use Rattle.cell.specs.declared.kind.Set.{Set}
-use Rattle.cell.specs.declared.kind.Set.the-variants.{G0, G10, G11, G20, G21, UserG0, UserG1}
+use Rattle.cell.specs.declared.kind.Set.the-variants.{G0, G10, G11, G20, G21, Goe, UserG0, UserG1, Q}
 use Rattle.cell.specs.declared.kind.Cell.{Cell}
 use Rattle.cell.specs.declared.kind.Cell.the-variants.{Bichrome, Quadrichrome}
-use Rattle.sources.specs.Sources.{setSource, cellSource, characterOf, keptSlice, romSlice, slicesOf}
+use Rattle.sources.specs.Sources.{forPart, setSource, cellSource, characterOf, keptSlice, romSlice, slicesOf}
 use Rattle.sources.specs.declared.source.Source.{Source}
 use Rattle.sources.specs.declared.source.Source.the-variants.{Rom, Block}
 
--- a ROM set is one of five, a block one of sixteen, whatever the board has
-abbrev pub Fitting : Source → Type 0
-Fitting (Rom set) = set < 5
-Fitting (Block z) = z < 16
+-- a ROM set is one of the part's, a block one of sixteen, whatever the board has
+abbrev pub Fitting : Part → Source → Type 0
+Fitting part (Rom set) = 1280 * set + 1280 ≤ romBytes part
+Fitting part (Block z) = z < 16
 
-set-fitting : (shown : Shown) (set : Set) → Fitting (setSource shown set)
-set-fitting shown G0 = omega arith
-set-fitting shown G10 = omega arith
-set-fitting shown G11 = omega arith
-set-fitting shown G20 = omega arith
-set-fitting shown G21 = omega arith
+rom-holds : (part : Part) (a b : ℕ) → a < 5 → b < 3 → 1280 * forPart part a b + 1280 ≤ romBytes part
+rom-holds Ef9345 a b h k = omega arith
+rom-holds Ts9347 a b h k = omega arith
+
+set-fitting : (shown : Shown) (set : Set) → Fitting (shown .part) (setSource shown set)
+set-fitting shown G0 = rom-holds (shown .part) 0 2 (omega arith) (omega arith)
+set-fitting shown G10 = rom-holds (shown .part) 1 0 (omega arith) (omega arith)
+set-fitting shown G11 = rom-holds (shown .part) 2 0 (omega arith) (omega arith)
+set-fitting shown G20 = rom-holds (shown .part) 3 0 (omega arith) (omega arith)
+set-fitting shown G21 = rom-holds (shown .part) 4 0 (omega arith) (omega arith)
+set-fitting shown Goe = rom-holds (shown .part) 0 1 (omega arith) (omega arith)
 set-fitting shown UserG0 = omega arith
 set-fitting shown (UserG1 s) = omega arith
+set-fitting shown (Q n) = omega arith
 
-pub source-fitting : (shown : Shown) (cell : Cell) → Fitting (cellSource shown cell)
+pub source-fitting : (shown : Shown) (cell : Cell) → Fitting (shown .part) (cellSource shown cell)
 source-fitting shown (Bichrome cell) = set-fitting shown (cell .set)
 source-fitting shown (Quadrichrome cell) = omega arith
 
-pub rom-fitting : (shown : Shown) (cell : Cell) (s : Source) (set : ℕ) → s ≡ cellSource shown cell → s ≡ Rom set → set < 5
+pub rom-fitting :
+    (shown : Shown) (cell : Cell) (s : Source) (set : ℕ) → s ≡ cellSource shown cell → s ≡ Rom set → 1280 * set + 1280 ≤ romBytes (shown .part)
 rom-fitting shown cell s set e f = rw (sym e ∙ f) at (source-fitting shown cell)
 
 -- a slice's place, at the numbers that the code has

@@ -3,37 +3,51 @@ ghost use mathlib.Core.Path.{_≡_};
 ghost use Prim.Native.Nat.{_+_, _*_, _<_, _≤_};
 ghost use lib.ListN.{length};
 ghost use Rattle.basics.specs.Parts.{table};
-ghost use Rattle.address.specs.Boards.{bytesOf};
+ghost use Rattle.board.specs.Boards.{bytesOf};
 ghost use Rattle.address.specs.Places.{placeAt, byteAt};
 ghost use Rattle.address.specs.Slices.{sliceAt};
 ghost use Rattle.shown.specs.Lengths.{romBytes};
-ghost use Rattle.sources.specs.Sources.{setSource, cellSource, characterOf, keptSlice, romSlice, slicesOf};
+ghost use Rattle.sources.specs.Sources.{forPart, setSource, cellSource, characterOf, keptSlice, romSlice, slicesOf};
 use address::byte::byte_or_zero;
 use address::place::place_at;
 use address::triple::is_legal_y;
+use board::Part;
 use cell::kind::Cell;
 use cell::kind::Set;
 use shown::Shown;
 
 pub enum Source {
-    // A ROM set, by the order G0, G10, G11, G20, G21.
+    // A ROM set, by its place in the ROM.
     Rom(u8),
     // A block of private memory.
     Block(u8),
 }
 
-// The source of a bichrome cell's set.
+// One number of an EF9345, another of a TS9347.
+fn for_part(part: Part, ef9345: u8, ts9347: u8) -> u8
+    ensures { λ r. ⌜ r ≡ forPart part ef9345 ts9347 ⌝ }
+{
+    match part {
+        Part::Ef9345 => ef9345,
+        Part::Ts9347 => ts9347,
+    }
+}
+
+// The source of a bichrome cell's set. The ROM has an EF9345's sets in the order G0, G10, G11, G20, G21, a TS9347's in the order G10, GOE, G0.
 pub fn set_source(set: Set, shown: Shown) -> Source
     ensures { λ r. ⌜ r ≡ setSource shown set ⌝ }
 {
+    let part = shown.part;
     match set {
-        Set::G0 => Source::Rom(0),
-        Set::G10 => Source::Rom(1),
-        Set::G11 => Source::Rom(2),
-        Set::G20 => Source::Rom(3),
-        Set::G21 => Source::Rom(4),
+        Set::G0 => Source::Rom(for_part(part, 0, 2)),
+        Set::G10 => Source::Rom(for_part(part, 1, 0)),
+        Set::G11 => Source::Rom(for_part(part, 2, 0)),
+        Set::G20 => Source::Rom(for_part(part, 3, 0)),
+        Set::G21 => Source::Rom(for_part(part, 4, 0)),
+        Set::Goe => Source::Rom(for_part(part, 0, 1)),
         Set::UserG0 => Source::Block(shown.dor % 16),
         Set::UserG1(s) => Source::Block(shown.dor / 16 % 8 * 2 + s % 2),
+        Set::Q(n) => Source::Block(shown.dor / 128 * 8 + n % 8),
     }
 }
 
@@ -101,7 +115,7 @@ pub fn kept_slices(memory: &[u8], blocks: u8, c: u8, z: u8) -> [u8; 10]
 
 // The ten slices of a character stand side by side in the ROM.
 pub fn rom_slices(rom: &[u8], c: u8, set: u8) -> [u8; 10]
-    requires { ⌜ (length (now rom) ≡ romBytes) × (set < 5) ⌝ }
+    requires { ⌜ 1280 * set + 1280 ≤ length (now rom) ⌝ }
     ensures { λ r. ⌜ r ≡ table (romSlice (now (rom .entry)) c set) 10 ⌝ }
 {
     let first = set as usize * 1280 + (c % 128) as usize * 10;
@@ -113,7 +127,7 @@ pub fn rom_slices(rom: &[u8], c: u8, set: u8) -> [u8; 10]
 }
 
 pub fn slices_of(memory: &[u8], rom: &[u8], shown: Shown, cell: Cell) -> [u8; 10]
-    requires { ⌜ (length (now memory) ≡ bytesOf (shown .blocks)) × (length (now rom) ≡ romBytes) ⌝ }
+    requires { ⌜ (length (now memory) ≡ bytesOf (shown .blocks)) × (length (now rom) ≡ romBytes (shown .part)) ⌝ }
     ensures { λ r. ⌜ r ≡ table (slicesOf (now (memory .entry)) (now (rom .entry)) shown cell) 10 ⌝ }
 {
     let c = character(cell);

@@ -1,3 +1,4 @@
+use Rattle.board.specs.declared.Part.the-variants.{Ef9345}
 use Rattle.page.specs.HowCodes.{codeOf}
 use Rattle.page.specs.Inputs.{flashes}
 use Rattle.page.proofs.Stretches.{row-stretches}
@@ -17,7 +18,7 @@ some-flash-requires-2 c κs = search needs
 returns-2 : tie.Need-returns-2
 returns-2 c = let e = c .before .before in
     let s = e .before .before .args in
-    rw (e .if1 .left) (row-stretches (λ x. flashes (codeOf (s .memory .now) (s .z) 0 x)) _ _ (c .before .some-flash .ensures) (c .some-flash2 .ensures))
+    rw (e .if1 .left) (row-stretches (λ x. flashes Ef9345 (codeOf (s .memory .now) (s .z) 0 x)) _ _ (c .before .some-flash .ensures) (c .some-flash2 .ensures))
 
 pub service-is-marked-or-flashes-spec : {M : Type 1} → statement M
 service-is-marked-or-flashes-spec = tie.close (tie.spec returns some-flash-requires some-flash-requires-2 returns-2)

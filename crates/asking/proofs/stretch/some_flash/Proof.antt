@@ -3,17 +3,18 @@ use Prim.Native.Nat.{_+_, _≤_, _-_}
 use mathlib.Core.Path.{_≡_, refl, ap, _∙_}
 use native.Mathlib.Omega.{arith}
 use Rattle.basics.specs.Below.{anyBelow}
+use Rattle.board.specs.declared.Part.the-variants.{Ef9345}
 use Rattle.page.specs.HowCodes.{codeOf}
 use Rattle.basics.proofs.Below.{gathered}
 use Rattle.page.specs.Inputs.{flashes}
 use Rattle.page.proofs.Stretches.{stretch-fits, stretch-b, stretch-a}
-use Rattle.asking.proofs.Rows.{flash-test}
+use Rattle.asking.proofs.Rows.{low-flash}
 use borrow.Author.Needs.{needs}
 use Rattle.asking.proofs.stretch.some_flash.Statement.{statement}
 use Rattle.asking.proofs.stretch.some_flash.Tie as tie
 
 abbrev Inv-loop : tie.InvT-loop
-Inv-loop memory z y first n b a found₀ i₀ found i = (i ≤ n) × (b + n ≤ length memory) × (a + n ≤ length memory) × (found ≡ anyBelow (λ j. flashes (codeOf memory z y (first + j))) i)
+Inv-loop memory z y first n b a found₀ i₀ found i = (i ≤ n) × (b + n ≤ length memory) × (a + n ≤ length memory) × (found ≡ anyBelow (λ j. flashes Ef9345 (codeOf memory z y (first + j))) i)
 
 abbrev μ-loop : tie.MeasureT-loop
 μ-loop memory z y first n b a found₀ i₀ found i = n - i
@@ -52,7 +53,7 @@ loop-again : tie.Need-loop-again Inv-loop μ-loop
 loop-again c = let a = c .before .before .before in
     let l = a .loop in
     let s = a .before .before .before .before .args in
-    (omega arith, l .inv .1, l .inv .2, gathered _ _ _ _ (l .inv .3) (flash-test _ _ _ (omega (arith, c .before .shared-slice-known2 .given (a .before .before .start .result + l .i))) (stretch-b (s .first) (l .i) (omega arith) (omega arith) _ _ _ _ (a .before .before .start .ensures)) (stretch-a (s .first) (l .i) (omega arith) (omega arith) _ _ _ _ (a .before .start2 .ensures))))
+    (omega arith, l .inv .1, l .inv .2, gathered _ _ _ _ (l .inv .3) (low-flash _ _ _ (omega (arith, c .before .shared-slice-known2 .given (a .before .before .start .result + l .i))) (stretch-b (s .first) (l .i) (omega arith) (omega arith) _ _ _ _ (a .before .before .start .ensures)) (stretch-a (s .first) (l .i) (omega arith) (omega arith) _ _ _ _ (a .before .start2 .ensures))))
 
 returns : tie.Need-returns Inv-loop μ-loop
 returns c = let l = c .before .loop in

@@ -3,16 +3,18 @@ use Prim.Native.Nat.{_+_, _≤_, _-_}
 use mathlib.Core.Path.{_≡_, refl, ap, _∙_}
 use native.Mathlib.Omega.{arith}
 use Rattle.basics.specs.Below.{anyBelow}
+use Rattle.board.specs.declared.Part.the-variants.{Ef9345}
 use Rattle.page.specs.HowCodes.{codeOf}
 use Rattle.basics.proofs.Below.{gathered}
 use Rattle.page.specs.Halves.{isTall}
-use Rattle.page.proofs.Stretches.{stretch-fits, stretch-b, tall-test}
+use Rattle.page.proofs.Stretches.{stretch-fits, stretch-b}
+use Rattle.asking.proofs.Rows.{low-tall}
 use borrow.Author.Needs.{needs}
 use Rattle.asking.proofs.stretch.some_tall.Statement.{statement}
 use Rattle.asking.proofs.stretch.some_tall.Tie as tie
 
 abbrev Inv-loop : tie.InvT-loop
-Inv-loop memory z y first n b found₀ i₀ found i = (i ≤ n) × (b + n ≤ length memory) × (found ≡ anyBelow (λ j. isTall (codeOf memory z y (first + j))) i)
+Inv-loop memory z y first n b found₀ i₀ found i = (i ≤ n) × (b + n ≤ length memory) × (found ≡ anyBelow (λ j. isTall Ef9345 (codeOf memory z y (first + j))) i)
 
 abbrev μ-loop : tie.MeasureT-loop
 μ-loop memory z y first n b found₀ i₀ found i = n - i
@@ -42,7 +44,7 @@ loop-again : tie.Need-loop-again Inv-loop μ-loop
 loop-again c = let a = c .before .before in
     let l = a .loop in
     let s = a .before .before .before .args in
-    (omega arith, l .inv .1, gathered _ _ _ _ (l .inv .2) (tall-test _ _ (omega (arith, c .shared-slice-known2 .given (a .before .start .result + l .i))) (stretch-b (s .first) (l .i) (omega arith) (omega arith) _ _ _ _ (a .before .start .ensures))))
+    (omega arith, l .inv .1, gathered _ _ _ _ (l .inv .2) (low-tall _ _ (omega (arith, c .shared-slice-known2 .given (a .before .start .result + l .i))) (stretch-b (s .first) (l .i) (omega arith) (omega arith) _ _ _ _ (a .before .start .ensures))))
 
 returns : tie.Need-returns Inv-loop μ-loop
 returns c = let l = c .before .loop in

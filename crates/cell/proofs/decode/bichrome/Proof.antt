@@ -1,10 +1,13 @@
-use Rattle.cell.proofs.Codes.{bichrome-parts}
+use Rattle.cell.proofs.Codes.{bichrome-parts, wide-bits}
 use Prim.Native.Nat.{_/_}
 use mathlib.Core.Path.{refl}
 use native.Mathlib.Omega.{arith}
 use borrow.Author.Needs.{needs}
 use Rattle.cell.proofs.decode.bichrome.Statement.{statement}
 use Rattle.cell.proofs.decode.bichrome.Tie as tie
+use Rattle.cell.proofs.decode.is_underlined.Reads as is-underlined-reads
+use Rattle.cell.proofs.decode.set_of.Reads as set-of-reads
+use Rattle.colour.proofs.Colour.from_number.Reads as from-number-reads
 
 set-of-requires : tie.Need-set-of-requires
 set-of-requires c κs = search needs
@@ -23,8 +26,9 @@ returns c = let q = c in
     let p = c .before in
     let u = p .before in
     let s = u .before in
-    bichrome-parts _ (s .before .args .b) (s .before .args .a) _ (s .before .args .a / 16) (s .before .args .a) (s .set-of .ensures) (u .is-underlined .ensures) refl refl refl refl (p .from-number .ensures) refl
-    (q .from-number2 .ensures) (omega arith) (omega arith) (omega arith)
+    let x = s .before .args in
+    bichrome-parts (x .part) _ (x .b) (x .a) (omega arith) (x .a / 16) (x .a) (s .set-of .ensures) (u .is-underlined .ensures) (wide-bits (x .b) (omega arith)) refl refl refl
+    (p .from-number .ensures) refl (q .from-number2 .ensures) (omega arith) (omega arith)
 
 pub bichrome-spec : {M : Type 1} → statement M
 bichrome-spec =

@@ -8,6 +8,9 @@ use mathlib.Core.Path.{ap, _∙_}
 use borrow.Author.Needs.{needs}
 use Rattle.cell.proofs.decode.decode.Statement.{statement}
 use Rattle.cell.proofs.decode.decode.Tie as tie
+use Rattle.cell.proofs.decode.bichrome.Reads as bichrome-reads
+use Rattle.cell.proofs.decode.last_bichrome.Reads as last-bichrome-reads
+use Rattle.cell.proofs.decode.quadrichrome.Reads as quadrichrome-reads
 
 array-read-c : tie.Need-array-read-c
 array-read-c c = search needs
@@ -18,6 +21,9 @@ array-read-b c = search needs
 array-read-a : tie.Need-array-read-a
 array-read-a c = search needs
 
+last-bichrome-requires : tie.Need-last-bichrome-requires
+last-bichrome-requires c κs = search needs
+
 bichrome-requires : tie.Need-bichrome-requires
 bichrome-requires c κs = search needs
 
@@ -25,11 +31,14 @@ quadrichrome-requires : tie.Need-quadrichrome-requires
 quadrichrome-requires c κs = search needs
 
 returns : tie.Need-returns
-returns c = ap Bichrome (c .bichrome .ensures) ∙ cell-bichrome _ _ _ (omega arith)
+returns c =
+    let f : Fits w8 (getD (c .before .before .before .args .t2) 1 0) = search needs in
+    ap Bichrome (c .bichrome .ensures) ∙ cell-bichrome _ _ _ _ (f .fits) (omega (arith, c .before .if1 .taken, c .before .before .last-bichrome .ensures))
 
 returns-2 : tie.Need-returns-2
-returns-2 c = let f : Fits w8 (getD (c .before .before .args .t1) 1 0) = search needs in
-    ap Quadrichrome (c .quadrichrome .ensures) ∙ cell-quadrichrome _ _ _ (omega arith) (f .fits)
+returns-2 c =
+    let f : Fits w8 (getD (c .before .before .before .args .t2) 1 0) = search needs in
+    ap Quadrichrome (c .quadrichrome .ensures) ∙ cell-quadrichrome _ _ _ _ (f .fits) (omega (arith, c .before .if1 .left, c .before .before .last-bichrome .ensures))
 
 pub decode-spec : {M : Type 1} → statement M
 decode-spec =
@@ -38,6 +47,7 @@ decode-spec =
     array-read-c
     array-read-b
     array-read-a
+    last-bichrome-requires
     bichrome-requires
     quadrichrome-requires
     returns

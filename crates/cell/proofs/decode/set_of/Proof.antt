@@ -1,29 +1,34 @@
-use Rattle.cell.proofs.Codes.{set-G0, set-G10, set-G11, set-G20, set-G21, set-UserG0, set-UserG1}
+use mathlib.Core.Path.{ap, _∙_}
 use native.Mathlib.Omega.{arith}
+use Rattle.cell.specs.Cells.{ef9345Set}
+use Rattle.cell.proofs.Codes.{high-bits}
+use borrow.Author.Needs.{needs}
 use Rattle.cell.proofs.decode.set_of.Statement.{statement}
 use Rattle.cell.proofs.decode.set_of.Tie as tie
+use Rattle.cell.proofs.decode.ef9345_set.Reads as ef9345-set-reads
+use Rattle.cell.proofs.decode.ts9347_set.Reads as ts9347-set-reads
+
+enum-told : tie.Need-enum-told
+enum-told c = search needs
+
+ef9345-set-requires : tie.Need-ef9345-set-requires
+ef9345-set-requires c κs = search needs
+
+enum-told-2 : tie.Need-enum-told-2
+enum-told-2 c = search needs
+
+ts9347-set-requires : tie.Need-ts9347-set-requires
+ts9347-set-requires c κs = search needs
 
 returns : tie.Need-returns
-returns c = set-G10 _ (c .match .keys1)
+returns c =
+    let b = c .before .before .before .args .b in
+    rw (c .before .enum-told .given .1) (c .ef9345-set .ensures ∙ ap ef9345Set (high-bits b (omega arith)))
 
 returns-2 : tie.Need-returns-2
-returns-2 c = set-G11 _ (c .match .keys2)
-
-returns-3 : tie.Need-returns-3
-returns-3 c = set-G0 _ (c .if1 .taken)
-
-returns-4 : tie.Need-returns-4
-returns-4 c = let none = c .before .before .match .rest in set-G20 _ (omega (arith, none .1, none .0 .1)) (c .if2 .taken)
-
-returns-5 : tie.Need-returns-5
-returns-5 c = set-G21 _ (c .before .if2 .left) (c .if3 .taken)
-
-returns-6 : tie.Need-returns-6
-returns-6 c = set-UserG0 _ (c .before .if3 .left) (c .if4 .taken)
-
-returns-7 : tie.Need-returns-7
-returns-7 c = set-UserG1 _ (c .if4 .left)
+returns-2 c = rw (c .before .enum-told2 .given .1) (c .ts9347-set .ensures)
 
 pub set-of-spec : {M : Type 1} → statement M
 set-of-spec =
-    tie.close (tie.spec returns returns-2 returns-3 returns-4 returns-5 returns-6 returns-7)
+    tie.close
+    (tie.spec enum-told ef9345-set-requires enum-told-2 ts9347-set-requires returns returns-2)

@@ -8,10 +8,10 @@ use Rattle.columns.proofs.pairs.pairs_of.Statement.{statement}
 use Rattle.columns.proofs.pairs.pairs_of.Tie as tie
 
 abbrev Inv-loop : tie.InvT-loop
-Inv-loop shown cells pairs₀ x₀ pairs x = (x ≤ 40) × CellsTo 4 (pairsAt cells shown) pairs x
+Inv-loop shown cells part pairs₀ x₀ pairs x = (x ≤ 40) × CellsTo 4 (pairsAt cells shown) pairs x
 
 abbrev μ-loop : tie.MeasureT-loop
-μ-loop shown cells pairs₀ x₀ pairs x = 40 - x
+μ-loop shown cells part pairs₀ x₀ pairs x = 40 - x
 
 loop-holds : tie.Need-loop-holds Inv-loop μ-loop
 loop-holds c = (omega arith, cells-none 4 _ _ refl)

@@ -5,7 +5,7 @@ use Rattle.cell.specs.declared.kind.Cell.{Cell}
 use Rattle.page.specs.Inputs.{decoded}
 use Rattle.columns.specs.HowTens.{tenOf}
 use native.Mathlib.Omega.{arith}
-use Rattle.columns.proofs.PlainCells.{start-fits, plain-ten, put-plain, ten-long}
+use Rattle.columns.proofs.PlainCells.{start-fits, start-small, plain-ten, put-plain, ten-long}
 use borrow.Author.Needs.{needs}
 use Rattle.columns.proofs.ten.put_ten.Statement.{statement}
 use Rattle.columns.proofs.ten.put_ten.Tie as tie
@@ -27,7 +27,7 @@ rom-start-requires c κs = search needs
 
 add-put-column : tie.Need-add-put-column
 add-put-column c = let a = c .before .before .before .before .before .before .before .args in
-    omega (arith, start-fits (getD (a .t6) 0 0) (getD (a .t6) 1 0) _ (c .before .rom-start .ensures))
+    omega (arith, start-small (a .shown .part) (getD (a .t6) 0 0) (getD (a .t6) 1 0) _ (c .before .rom-start .ensures))
 
 sub-put-column : tie.Need-sub-put-column
 sub-put-column c = search needs
@@ -37,7 +37,7 @@ part-put-column-start c = search needs
 
 part-put-column-end : tie.Need-part-put-column-end
 part-put-column-end c = let a = c .before .before .before .before .before .before .before .args in
-    search (needs, start-fits (getD (a .t6) 0 0) (getD (a .t6) 1 0) _ (c .before .rom-start .ensures))
+    search (needs, start-fits (a .shown .part) (getD (a .t6) 0 0) (getD (a .t6) 1 0) _ (c .before .rom-start .ensures))
 
 put-column-requires : tie.Need-put-column-requires
 put-column-requires c κs = search needs
@@ -56,11 +56,11 @@ returns c = let p = c .before .before in
     let first = r .rom-start .result in
     let ten : first + 10 - first ≡ 10 = omega arith in
     put-plain (a .tens .now) (p .put-column .last .0) (take (first + 10 - first) (drop first (a .rom .now)))
-    (tenOf (a .memory .now) (a .rom .now) (a .shown) (decoded (a .t6)) (a .lower) (a .right)) (a .x) (p .put-column .ensures)
+    (tenOf (a .memory .now) (a .rom .now) (a .shown) (decoded (a .shown .part) (a .t6)) (a .lower) (a .right)) (a .x) (p .put-column .ensures)
     (ap (λ (w : ℕ). take w (drop first (a .rom .now))) ten
     ∙ plain-ten (a .memory .now) (a .rom .now) (a .shown) (a .t6) (sym (g .is-plain .ensures) ∙ i .if1 .taken) (a .lower) (a .right) first (r .rom-start .ensures) (s .pre .3)
     (λ n. omega (arith, k .before .shared-slice-known .given n)) (λ n. omega (arith, k .shared-slice-known2 .given n)))
-    (ten-long (a .memory .now) (a .rom .now) (a .shown) (decoded (a .t6)) (a .lower) (a .right))
+    (ten-long (a .memory .now) (a .rom .now) (a .shown) (decoded (a .shown .part) (a .t6)) (a .lower) (a .right))
 
 decode-requires : tie.Need-decode-requires
 decode-requires c κs = search needs
@@ -83,9 +83,9 @@ returns-2 c = let p = c .before .before in
     let s = t .before .before .before .before .before .before .before in
     let a = s .args in
     put-plain (a .tens .now) (p .put-column2 .last .0) (t .ten-of .result)
-    (tenOf (a .memory .now) (a .rom .now) (a .shown) (decoded (a .t6)) (a .lower) (a .right)) (a .x) (p .put-column2 .ensures)
+    (tenOf (a .memory .now) (a .rom .now) (a .shown) (decoded (a .shown .part) (a .t6)) (a .lower) (a .right)) (a .x) (p .put-column2 .ensures)
     (t .ten-of .ensures ∙ ap (λ (z : Cell). tenOf (a .memory .now) (a .rom .now) (a .shown) z (a .lower) (a .right)) (t .before .decode .ensures))
-    (ten-long (a .memory .now) (a .rom .now) (a .shown) (decoded (a .t6)) (a .lower) (a .right))
+    (ten-long (a .memory .now) (a .rom .now) (a .shown) (decoded (a .shown .part) (a .t6)) (a .lower) (a .right))
 
 pub put-ten-spec : {M : Type 1} → statement M
 put-ten-spec =

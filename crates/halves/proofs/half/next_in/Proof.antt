@@ -12,10 +12,10 @@ use Rattle.halves.proofs.half.next_in.Statement.{statement}
 use Rattle.halves.proofs.half.next_in.Tie as tie
 
 abbrev Inv-loop : tie.InvT-loop
-Inv-loop memory z third y above first n next₀ lowers here over i₀ next i = (i ≤ n) × Within memory here n × Within memory over n × (length next ≡ 40) × (next ≡ filled 1 (λ x. nextLowerIn memory z y above lowers x ∷ []) next₀ (first + i))
+Inv-loop part memory z third y above first n next₀ lowers here over i₀ next i = (i ≤ n) × Within memory here n × Within memory over n × (length next ≡ 40) × (next ≡ filled 1 (λ x. nextLowerIn part memory z y above lowers x ∷ []) next₀ (first + i))
 
 abbrev μ-loop : tie.MeasureT-loop
-μ-loop memory z third y above first n next₀ lowers here over i₀ next i = n - i
+μ-loop part memory z third y above first n next₀ lowers here over i₀ next i = n - i
 
 compared-by-requires : tie.Need-compared-by-requires Inv-loop μ-loop
 compared-by-requires c κs = search needs
@@ -70,16 +70,16 @@ loop-again c = let l = c .before .before .loop in
       l .inv .2,
       simp length-set (l .inv .3),
       filled-next _ (a .t1) (l .next) (a .first + l .i) _ (a .first + (l .i + 1)) (omega arith) (omega arith) (l .inv .4)
-          (ap (λ (t : Bool). t && not (getD (a .t9) (a .first + l .i) false))
+          (ap (λ (t : Bool). t && not (getD (a .t10) (a .first + l .i) false))
           (c .goes-on-at .ensures
-          ∙ compared-on (a .memory .now) (a .z) (a .third) (s .pre .0) (a .first) (l .i) (omega arith) (omega arith) (a .y) (a .above) _ _ (o .before .compared-by .ensures) (o .compared-by2 .ensures))),
+          ∙ compared-on (a .memory .now) (a .z) (a .third) (s .pre .0) (a .part) (a .first) (l .i) (omega arith) (omega arith) (a .y) (a .above) _ _ (o .before .compared-by .ensures) (o .compared-by2 .ensures))),
     )
 
 returns : tie.Need-returns Inv-loop μ-loop
 returns c = let l = c .before .loop in
     let a = c .before .before .before .before .before .args in
     let e : a .first + l .i ≡ a .first + a .n = omega arith in
-    l .inv .4 ∙ ap (filled 1 (λ x. nextLowerIn (a .memory .now) (a .z) (a .y) (a .above) (a .t9) x ∷ []) (a .t1)) e
+    l .inv .4 ∙ ap (filled 1 (λ x. nextLowerIn (a .part) (a .memory .now) (a .z) (a .y) (a .above) (a .t10) x ∷ []) (a .t1)) e
 
 pub next-in-spec : {M : Type 1} → statement M
 next-in-spec =

@@ -56,7 +56,7 @@ next-in-requires-2 c κs = let u = c .before in
     let e = f .before .before in
     let s = e .before .before .before in
     let all = compared (s .args .shown) (s .args .memory .now) (search needs) _ _ (f .first-block .ensures) (sym (e .before .is-fitted .ensures) ∙ not-false _ (e .if1 .left)) (f .before .third-of .ensures) in
-    let below = nextLowerIn (s .args .memory .now) (f .first-block .result) (u .before .before .row-y .result) (u .row-y2 .result) (s .args .lowers) in
+    let below = nextLowerIn (s .args .shown .part) (s .args .memory .now) (f .first-block .result) (u .before .before .row-y .result) (u .row-y2 .result) (s .args .lowers) in
     (all, rw (u .before .before .row-y .ensures) (row-small _ _), rw (u .row-y2 .ensures) (row-small _ _), omega arith, omega arith, filled-take below (replicate 40 false) _ 32 (c .next-in .ensures))
 
 returns-2 : tie.Need-returns-2

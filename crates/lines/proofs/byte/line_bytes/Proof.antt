@@ -12,10 +12,10 @@ underlined-requires : tie.Need-underlined-requires
 underlined-requires c κs = search needs
 
 returns : tie.Need-returns
-returns c = c .underlined .ensures ∙ bytes-lined _ _ _ _ _ (c .before .before .plain-bytes .ensures) 9 (omega arith)
+returns c = c .underlined .ensures ∙ bytes-lined _ _ _ _ _ _ (c .before .before .plain-bytes .ensures) 9 (omega arith)
 
 returns-2 : tie.Need-returns-2
-returns-2 c = bytes-plain _ _ _ _ _ (c .before .plain-bytes .ensures) (omega arith)
+returns-2 c = bytes-plain _ _ _ _ _ _ (c .before .plain-bytes .ensures) (omega arith)
 
 pub line-bytes-spec : {M : Type 1} → statement M
 line-bytes-spec = tie.close (tie.spec plain-bytes-requires underlined-requires returns returns-2)

@@ -10,10 +10,10 @@ use Rattle.lines.proofs.byte.underlined.Statement.{statement}
 use Rattle.lines.proofs.byte.underlined.Tie as tie
 
 abbrev Inv-loop : tie.InvT-loop
-Inv-loop n cells lowers plain bytes₀ x₀ bytes x = (x ≤ 40) × (length bytes ≡ 40) × (take x bytes ≡ table (linedOn cells lowers plain n) x)
+Inv-loop part n cells lowers plain bytes₀ x₀ bytes x = (x ≤ 40) × (length bytes ≡ 40) × (take x bytes ≡ table (linedOn part cells lowers plain n) x)
 
 abbrev μ-loop : tie.MeasureT-loop
-μ-loop n cells lowers plain bytes₀ x₀ bytes x = 40 - x
+μ-loop part n cells lowers plain bytes₀ x₀ bytes x = 40 - x
 
 loop-holds : tie.Need-loop-holds Inv-loop μ-loop
 unfolding joined

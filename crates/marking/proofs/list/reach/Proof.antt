@@ -14,10 +14,10 @@ use Rattle.marking.proofs.list.reach.Statement.{statement}
 use Rattle.marking.proofs.list.reach.Tie as tie
 
 abbrev Inv-loop : tie.InvT-loop
-Inv-loop marks₀ memory z yor row r₀ marks r = (row < r) × (r ≤ 25) × (marks ≡ markedToo (below (fallsTo (λ i. tallAt memory z (rowY yor i)) row) marks₀ r) marks₀) × (fallsTo (λ i. tallAt memory z (rowY yor i)) row r ≡ tallAt memory z (rowY yor r))
+Inv-loop marks₀ part memory z yor row r₀ marks r = (row < r) × (r ≤ 25) × (marks ≡ markedToo (below (fallsTo (λ i. tallAt part memory z (rowY yor i)) row) marks₀ r) marks₀) × (fallsTo (λ i. tallAt part memory z (rowY yor i)) row r ≡ tallAt part memory z (rowY yor r))
 
 abbrev μ-loop : tie.MeasureT-loop
-μ-loop marks₀ memory z yor row r₀ marks r = 25 - r
+μ-loop marks₀ part memory z yor row r₀ marks r = 25 - r
 
 element-write-marks : tie.Need-element-write-marks Inv-loop μ-loop
 element-write-marks c = search needs
@@ -27,7 +27,7 @@ add-r c = search needs
 
 loop-holds : tie.Need-loop-holds Inv-loop μ-loop
 loop-holds c = let s = c .before .args in
-    let tall : ℕ → Bool = λ i. tallAt (s .memory .now) (s .z) (rowY (s .yor) i) in
+    let tall : ℕ → Bool = λ i. tallAt (s .part) (s .memory .now) (s .z) (rowY (s .yor) i) in
     (omega arith, omega arith, reach-begins tall (s .row) (s .marks .now) _ (reach-start tall (s .row) _ (c .before .pre .0) (omega arith)), falls-next tall (s .row) (s .row) (omega arith) (falls-own tall (s .row)))
 
 cast-row-y : tie.Need-cast-row-y Inv-loop μ-loop
@@ -43,8 +43,8 @@ returns : tie.Need-returns Inv-loop μ-loop
 returns c = let h = c .before in
     let a = h .before .before .before in
     let s = a .before .before .args in
-    let tall : ℕ → Bool = λ i. tallAt (s .memory .now) (s .z) (rowY (s .yor) i) in
-    let t = row-asked (tallAt (s .memory .now) (s .z)) _ _ _ (h .has-tall .ensures) (h .before .row-y .ensures) in
+    let tall : ℕ → Bool = λ i. tallAt (s .part) (s .memory .now) (s .z) (rowY (s .yor) i) in
+    let t = row-asked (tallAt (s .part) (s .memory .now) (s .z)) _ _ _ (h .has-tall .ensures) (h .before .row-y .ensures) in
     let off = reach-off tall (s .row) (s .marks .now) (a .loop .r) _ (a .loop .inv .3) t (c .if1 .taken) in
     reach-ends tall (s .row) (s .marks .now) _ _ (reach-start tall (s .row) _ (a .before .before .pre .0) (omega arith)) (reach-left tall (s .row) _ _ _ (a .loop .inv .2) (a .loop .inv .0) off)
 
@@ -61,15 +61,15 @@ loop-again : tie.Need-loop-again Inv-loop μ-loop
 loop-again c = let h = c .before in
     let a = h .before .before .before in
     let s = a .before .before .args in
-    let tall : ℕ → Bool = λ i. tallAt (s .memory .now) (s .z) (rowY (s .yor) i) in
-    let t = row-asked (tallAt (s .memory .now) (s .z)) _ _ _ (h .has-tall .ensures) (h .before .row-y .ensures) in
+    let tall : ℕ → Bool = λ i. tallAt (s .part) (s .memory .now) (s .z) (rowY (s .yor) i) in
+    let t = row-asked (tallAt (s .part) (s .memory .now) (s .z)) _ _ _ (h .has-tall .ensures) (h .before .row-y .ensures) in
     let on = reach-on tall (s .row) (s .marks .now) (a .loop .r) _ (a .loop .inv .3) t (c .if1 .left) in
     (omega arith, omega arith, reach-turn tall (s .row) _ _ _ (a .loop .inv .2) (omega arith) on, falls-next tall (s .row) (a .loop .r) (omega arith) on)
 
 returns-2 : tie.Need-returns-2 Inv-loop μ-loop
 returns-2 c = let b = c .before .before .before in
     let s = b .args in
-    let tall : ℕ → Bool = λ i. tallAt (s .memory .now) (s .z) (rowY (s .yor) i) in
+    let tall : ℕ → Bool = λ i. tallAt (s .part) (s .memory .now) (s .z) (rowY (s .yor) i) in
     reach-ends tall (s .row) (s .marks .now) _ _ (reach-start tall (s .row) _ (b .pre .0) (omega arith)) (below-end (fallsTo tall (s .row)) _ _ _ (c .before .loop .inv .2) (λ i l h. absurd (omega arith)))
 
 pub reach-spec : {M : Type 1} → statement M

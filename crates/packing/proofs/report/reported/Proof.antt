@@ -1,5 +1,6 @@
 use borrow.Author.Needs.{length-unmapped, needs}
 use Rattle.packing.proofs.Layouts.{reported-parts}
+use borrow.Author.Needs.{needs}
 use Rattle.packing.proofs.report.reported.Statement.{statement}
 use Rattle.packing.proofs.report.reported.Tie as tie
 
@@ -90,8 +91,14 @@ array-write-bytes-14 c = search needs
 array-write-bytes-15 : tie.Need-array-write-bytes-15
 array-write-bytes-15 c = search needs
 
+part-number-requires : tie.Need-part-number-requires
+part-number-requires c κs = search needs
+
 array-write-bytes-16 : tie.Need-array-write-bytes-16
 array-write-bytes-16 c = search needs
+
+array-write-bytes-17 : tie.Need-array-write-bytes-17
+array-write-bytes-17 c = search needs
 
 slice-aggregate-put-marks : tie.Need-slice-aggregate-put-marks
 slice-aggregate-put-marks c = search needs
@@ -101,10 +108,11 @@ put-marks-requires c κs = search needs
 
 returns : tie.Need-returns
 returns c = let k = c .before in
-    let s = k .before .before .before .before in
-    let p = s .before .before .args .p in
-    reported-parts p (s .before .status .result) (k .put-marks .last .0) (length-unmapped _ (p .marks) 25 (s .before .before .good .0 .1 .1 .1 .1 .1 .1 .1 .0 .1 .0 .1))
-    (s .before .status .ensures) (k .put-marks .ensures)
+    let n = k .before .before in
+    let s = n .before .before .before .before in
+    let p = s .before .args .p in
+    reported-parts p (s .status .result) (n .part-number .result) (k .put-marks .last .0) (length-unmapped _ (p .marks) 25 (s .before .good .0 .1 .1 .1 .1 .1 .1 .1 .1 .0 .1 .0 .1))
+    (s .status .ensures) (n .part-number .ensures) (k .put-marks .ensures)
 
 pub reported-spec : {M : Type 1} → statement M
 reported-spec =
@@ -139,7 +147,9 @@ reported-spec =
     array-read-bytes-13
     array-write-bytes-14
     array-write-bytes-15
+    part-number-requires
     array-write-bytes-16
+    array-write-bytes-17
     slice-aggregate-put-marks
     put-marks-requires
     returns)

@@ -4,6 +4,7 @@ use Rattle.page.proofs.Stretches.{goes-on-test}
 use borrow.Author.Needs.{needs}
 use Rattle.page.proofs.stretch.goes_on_at.Statement.{statement}
 use Rattle.page.proofs.stretch.goes_on_at.Tie as tie
+use Rattle.cell.proofs.decode.last_bichrome.Reads as last-bichrome-reads
 
 add-c : tie.Need-add-c
 add-c c = search needs
@@ -41,9 +42,14 @@ add-same c = search needs
 shared-slice-read-same : tie.Need-shared-slice-read-same
 shared-slice-read-same c = search needs
 
+last-bichrome-requires : tie.Need-last-bichrome-requires
+last-bichrome-requires c κs = search needs
+
 returns : tie.Need-returns
-returns c = let a = c .before .before .before .before .before .before .before .before .before .before .before .before .args in
-    goes-on-test (a .memory .now) (a .here) (a .above) (a .i) (omega (arith, c .shared-slice-known6 .given (a .here .b + a .i)))
+returns c =
+    let e = c .before in
+    let a = e .before .before .before .before .before .before .before .before .before .before .before .before .before .args in
+    goes-on-test (a .part) _ (c .last-bichrome .ensures) (a .memory .now) (a .here) (a .above) (a .i) (omega (arith, e .shared-slice-known7 .given (a .here .b + a .i)))
 
 pub goes-on-at-spec : {M : Type 1} → statement M
 goes-on-at-spec =
@@ -61,4 +67,5 @@ goes-on-at-spec =
     shared-slice-read-same-a
     add-same
     shared-slice-read-same
+    last-bichrome-requires
     returns)

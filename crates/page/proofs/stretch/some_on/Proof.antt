@@ -8,12 +8,14 @@ use Prim.Native.Nat.{_+_, _≤_, _-_}
 use borrow.Author.Needs.{needs}
 use Rattle.page.proofs.stretch.some_on.Statement.{statement}
 use Rattle.page.proofs.stretch.some_on.Tie as tie
+use Rattle.page.proofs.stretch.compared_by.Reads as compared-by-reads
+use Rattle.page.proofs.stretch.goes_on_at.Reads as goes-on-at-reads
 
 abbrev Inv-loop : tie.InvT-loop
-Inv-loop memory z third y above first n here over found₀ i₀ found i = (i ≤ n) × Within memory here n × Within memory over n × (found ≡ anyBelow (λ j. goesOnIn memory z y above (first + j)) i)
+Inv-loop part memory z third y above first n here over found₀ i₀ found i = (i ≤ n) × Within memory here n × Within memory over n × (found ≡ anyBelow (λ j. goesOnIn part memory z y above (first + j)) i)
 
 abbrev μ-loop : tie.MeasureT-loop
-μ-loop memory z third y above first n here over found₀ i₀ found i = n - i
+μ-loop part memory z third y above first n here over found₀ i₀ found i = n - i
 
 compared-by-requires : tie.Need-compared-by-requires Inv-loop μ-loop
 compared-by-requires c κs = search needs
@@ -52,7 +54,7 @@ loop-again c = let l = c .before .before .loop in
       l .inv .2,
       gathered _ _ _ _ (l .inv .3)
           (c .goes-on-at .ensures
-          ∙ compared-on (a .memory .now) (a .z) (a .third) (s .pre .0) (a .first) (l .i) (omega arith) (omega arith) (a .y) (a .above) _ _ (o .before .compared-by .ensures) (o .compared-by2 .ensures)),
+          ∙ compared-on (a .memory .now) (a .z) (a .third) (s .pre .0) (a .part) (a .first) (l .i) (omega arith) (omega arith) (a .y) (a .above) _ _ (o .before .compared-by .ensures) (o .compared-by2 .ensures)),
     )
 
 returns : tie.Need-returns Inv-loop μ-loop

@@ -12,10 +12,10 @@ use Rattle.phases.proofs.bare.row_flashes.Statement.{statement}
 use Rattle.phases.proofs.bare.row_flashes.Tie as tie
 
 abbrev Inv-loop : tie.InvT-loop
-Inv-loop memory row eighty cells found₀ x₀ found x = (x ≤ 40) × (found ≡ anyBelow (λ i. flashesIn eighty (getD cells i [])) x)
+Inv-loop memory row part eighty cells found₀ x₀ found x = (x ≤ 40) × (found ≡ anyBelow (λ i. flashesIn part eighty (getD cells i [])) x)
 
 abbrev μ-loop : tie.MeasureT-loop
-μ-loop memory row eighty cells found₀ x₀ found x = 40 - x
+μ-loop memory row part eighty cells found₀ x₀ found x = 40 - x
 
 is-eighty-requires : tie.Need-is-eighty-requires Inv-loop μ-loop
 is-eighty-requires c κs = search needs
@@ -54,7 +54,7 @@ loop-less c = omega arith
 loop-again : tie.Need-loop-again Inv-loop μ-loop
 loop-again c = let a = c .before .before .before in
     let b = a .before in
-    (omega arith, gathered _ _ _ _ (a .loop .inv .1) (c .column-flashes .ensures ∙ by-bytes (b .before .is-eighty .result) (getD (b .row-buffer .result) (a .loop .x) [])))
+    (omega arith, gathered _ _ _ _ (a .loop .inv .1) (c .column-flashes .ensures ∙ by-bytes (b .before .before .before .args .shown .part) (b .before .is-eighty .result) (getD (b .row-buffer .result) (a .loop .x) [])))
 
 returns : tie.Need-returns Inv-loop μ-loop
 returns c = let l = c .before in

@@ -5,6 +5,7 @@ use mathlib.Core.Path.{_≡_, refl, sym, ap, _∙_}
 use mathlib.Core.Logic.{⊎-elim}
 use native.Mathlib.Omega.{arith}
 use borrow.Author.Tests.{not-false}
+use Rattle.board.specs.declared.Part.the-variants.{Ef9345}
 use Rattle.address.specs.Rows.{rowY}
 use Rattle.address.proofs.Laws.{row-service, row-from-one}
 use Rattle.page.specs.Marks.{markedToo}
@@ -17,7 +18,7 @@ use Rattle.phases.proofs.phase.flash_in.Statement.{statement}
 use Rattle.phases.proofs.phase.flash_in.Tie as tie
 
 abbrev Inv-loop : tie.InvT-loop
-Inv-loop marks₀ memory z yor service g₀ marks g = (g ≤ 6) × (marks ≡ markedToo (upTo (λ r. flashAt memory z (rowY yor r)) marks₀ (λ i. i) (1 + 4 * g)) marks₀)
+Inv-loop marks₀ memory z yor service g₀ marks g = (g ≤ 6) × (marks ≡ markedToo (upTo (λ r. flashAt Ef9345 memory z (rowY yor r)) marks₀ (λ i. i) (1 + 4 * g)) marks₀)
 
 abbrev μ-loop : tie.MeasureT-loop
 μ-loop marks₀ memory z yor service g₀ marks g = 6 - g
@@ -34,8 +35,8 @@ element-write-marks c = search needs
 loop-holds : tie.Need-loop-holds Inv-loop μ-loop
 loop-holds c = let b = c .before .before .before in
     let s = b .args in
-    let f : ℕ → Bool = λ r. flashAt (s .memory .now) (s .z) (rowY (s .yor) r) in
-    (omega arith, up-begins f (s .marks .now) (λ i. i) 1 _ (begun-by-row f (s .marks .now) _ _ (b .pre .0) (ap (flashAt (s .memory .now) (s .z)) (sym (row-service (s .yor) 0 refl))) (c .service-is-marked-or-flashes .ensures)))
+    let f : ℕ → Bool = λ r. flashAt Ef9345 (s .memory .now) (s .z) (rowY (s .yor) r) in
+    (omega arith, up-begins f (s .marks .now) (λ i. i) 1 _ (begun-by-row f (s .marks .now) _ _ (b .pre .0) (ap (flashAt Ef9345 (s .memory .now) (s .z)) (sym (row-service (s .yor) 0 refl))) (c .service-is-marked-or-flashes .ensures)))
 
 mul-r : tie.Need-mul-r Inv-loop μ-loop
 mul-r c = search needs
@@ -72,16 +73,16 @@ loop-again c = let h = c .before in
     let a = h .before .before .before .before in
     let l = a .loop in
     let s = a .before .before .before .before .args in
-    let f : ℕ → Bool = λ r. flashAt (s .memory .now) (s .z) (rowY (s .yor) r) in
-    (omega arith, ⊎-elim (λ w. w .3 ∙ up-asked f _ (λ i. i) 4 (1 + 4 * l .g) _ _ _ (omega arith) (l .inv .1) (w .2 .ensures)) (λ w. w .1 ∙ up-left f _ (λ i. i) 4 (1 + 4 * l .g) _ _ (omega arith) (l .inv .1) (quiet-still (s .memory .now) (s .z) _ _ (s .yor) (1 + 4 * l .g) _ (h .are-quiet .ensures) (not-false _ (w .0 .left)) (h .before .row-y .ensures) (λ e. omega arith))) (c .if1 .came))
+    let f : ℕ → Bool = λ r. flashAt Ef9345 (s .memory .now) (s .z) (rowY (s .yor) r) in
+    (omega arith, ⊎-elim (λ w. w .3 ∙ up-asked f _ (λ i. i) 4 (1 + 4 * l .g) _ _ _ (omega arith) (l .inv .1) (w .2 .ensures)) (λ w. w .1 ∙ up-left f _ (λ i. i) 4 (1 + 4 * l .g) _ _ (omega arith) (l .inv .1) (quiet-still (s .memory .now) (s .z) _ _ Ef9345 (s .yor) (1 + 4 * l .g) _ (h .are-quiet .ensures) (not-false _ (w .0 .left)) (h .before .row-y .ensures) (λ e. omega arith))) (c .if1 .came))
 
 returns : tie.Need-returns Inv-loop μ-loop
 returns c = let l = c .before in
     let i = l .before in
     let b = i .before .before .before in
     let s = b .args in
-    let f : ℕ → Bool = λ r. flashAt (s .memory .now) (s .z) (rowY (s .yor) r) in
-    up-ends f (s .marks .now) (λ i. i) 1 _ (begun-by-row f (s .marks .now) _ _ (b .pre .0) (ap (flashAt (s .memory .now) (s .z)) (sym (row-service (s .yor) 0 refl))) (i .service-is-marked-or-flashes .ensures)) _ (up-end f _ (λ i. i) _ _ (l .loop .inv .1) (λ i h. omega arith))
+    let f : ℕ → Bool = λ r. flashAt Ef9345 (s .memory .now) (s .z) (rowY (s .yor) r) in
+    up-ends f (s .marks .now) (λ i. i) 1 _ (begun-by-row f (s .marks .now) _ _ (b .pre .0) (ap (flashAt Ef9345 (s .memory .now) (s .z)) (sym (row-service (s .yor) 0 refl))) (i .service-is-marked-or-flashes .ensures)) _ (up-end f _ (λ i. i) _ _ (l .loop .inv .1) (λ i h. omega arith))
 
 pub flash-in-spec : {M : Type 1} → statement M
 flash-in-spec =

@@ -1,5 +1,5 @@
 use Rattle.picture.proofs.AnyRows.{DrawnTo, start, keep}
-use Rattle.picture.proofs.Redrawing.{drew-eighty, eighty-end}
+use Rattle.picture.proofs.Redrawing.{rom-least, drew-eighty, eighty-end}
 use Rattle.eighty.specs.Rows.{eightyRow}
 use Rattle.page.specs.Marks.{isMarked}
 use Rattle.shown.specs.Lengths.{eightyBytes}
@@ -62,7 +62,8 @@ part-draw-row-end : tie.Need-part-draw-row-end Inv-loop μ-loop
 part-draw-row-end c = search needs
 
 draw-row-requires : tie.Need-draw-row-requires Inv-loop μ-loop
-draw-row-requires c κs = let i = c .before .before .before .before .before .before in (search needs, search needs, i .inks-of .ensures)
+draw-row-requires c κs = let i = c .before .before .before .before .before .before in
+    let s = i .before .before .before .before in (search needs, omega (arith, s .pre .2, rom-least (s .args .shown .part)), i .inks-of .ensures)
 
 add-rows : tie.Need-add-rows Inv-loop μ-loop
 add-rows c = search needs

@@ -1,7 +1,7 @@
 use lib.ListN.{length-set}
 use mathlib.Core.Path.{refl}
 use native.Mathlib.Omega.{arith}
-use Rattle.address.specs.Boards.{bytesOf}
+use Rattle.board.specs.Boards.{bytesOf}
 use Rattle.processor.specs.States.{chip}
 use Rattle.processor.proofs.Ways.{code-within, code-place, code-stored}
 use borrow.Author.Needs.{needs}

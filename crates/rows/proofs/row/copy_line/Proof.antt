@@ -10,10 +10,10 @@ use Rattle.rows.proofs.row.copy_line.Statement.{statement}
 use Rattle.rows.proofs.row.copy_line.Tie as tie
 
 abbrev Inv-loop : tie.InvT-loop
-Inv-loop part₀ line i₀ part i = (i ≤ lineBytes fortyBytes) × (length part ≡ lineBytes fortyBytes) × (take i part ≡ take i line)
+Inv-loop lent₀ line i₀ lent i = (i ≤ lineBytes fortyBytes) × (length lent ≡ lineBytes fortyBytes) × (take i lent ≡ take i line)
 
 abbrev μ-loop : tie.MeasureT-loop
-μ-loop part₀ line i₀ part i = lineBytes fortyBytes - i
+μ-loop lent₀ line i₀ lent i = lineBytes fortyBytes - i
 
 loop-holds : tie.Need-loop-holds Inv-loop μ-loop
 loop-holds c = (omega arith, c .pre, refl)
@@ -21,8 +21,8 @@ loop-holds c = (omega arith, c .pre, refl)
 array-read-byte : tie.Need-array-read-byte Inv-loop μ-loop
 array-read-byte c = search needs
 
-slice-write-part : tie.Need-slice-write-part Inv-loop μ-loop
-slice-write-part c = search needs
+slice-write-lent : tie.Need-slice-write-lent Inv-loop μ-loop
+slice-write-lent c = search needs
 
 add-i : tie.Need-add-i Inv-loop μ-loop
 add-i c = search needs
@@ -33,7 +33,7 @@ loop-less c = omega arith
 loop-again : tie.Need-loop-again Inv-loop μ-loop
 loop-again c = let l = c .before .loop in
     let n : length (c .before .before .args .t2) ≡ lineBytes fortyBytes = search needs in
-    (omega arith, simp length-set (l .inv .1), copy-set (c .before .before .args .t2) (l .part) (l .i) 0 (l .inv .2) (omega arith) (omega arith))
+    (omega arith, simp length-set (l .inv .1), copy-set (c .before .before .args .t2) (l .lent) (l .i) 0 (l .inv .2) (omega arith) (omega arith))
 
 same-length : tie.Need-same-length Inv-loop μ-loop
 same-length c = search needs
@@ -51,7 +51,7 @@ copy-line-spec =
     μ-loop
     loop-holds
     array-read-byte
-    slice-write-part
+    slice-write-lent
     add-i
     loop-less
     loop-again

@@ -10,10 +10,10 @@ use Rattle.rows.proofs.row.draw_lines.Statement.{statement}
 use Rattle.rows.proofs.row.draw_lines.Tie as tie
 
 abbrev Inv-loop : tie.InvT-loop
-Inv-loop part₀ cells lowers tens pairs n₀ part n = LinesTo fortyBytes (lineOn cells lowers tens pairs) part n
+Inv-loop lent₀ part cells lowers tens pairs n₀ lent n = LinesTo fortyBytes (lineOn part cells lowers tens pairs) lent n
 
 abbrev μ-loop : tie.MeasureT-loop
-μ-loop part₀ cells lowers tens pairs n₀ part n = 10 - n
+μ-loop lent₀ part cells lowers tens pairs n₀ lent n = 10 - n
 
 loop-holds : tie.Need-loop-holds Inv-loop μ-loop
 loop-holds c = no-lines _ _ _ (c .before .pre)
@@ -52,13 +52,13 @@ loop-again : tie.Need-loop-again Inv-loop μ-loop
 loop-again c = let k = c .before .before in
     let d = k .before .before in
     let l = d .before .before .loop in
-    line-drawn fortyBytes _ (line-long _ _ _ _) (l .part) (l .n) (l .inv) (omega arith) (k .copy-line .last .0) (k .copy-line .ensures ∙ d .line .ensures) (search needs)
+    line-drawn fortyBytes _ (line-long _ _ _ _ _) (l .lent) (l .n) (l .inv) (omega arith) (k .copy-line .last .0) (k .copy-line .ensures ∙ d .line .ensures) (search needs)
 
 same-length : tie.Need-same-length Inv-loop μ-loop
 same-length c = search needs
 
 returns : tie.Need-returns Inv-loop μ-loop
-returns c = let l = c .before .loop in all-lines fortyBytes _ (l .part) (l .n) (l .inv) (c .loop-test .left)
+returns c = let l = c .before .loop in all-lines fortyBytes _ (l .lent) (l .n) (l .inv) (c .loop-test .left)
 
 pub draw-lines-spec : {M : Type 1} → statement M
 draw-lines-spec =

@@ -1,3 +1,4 @@
+use native.Mathlib.Omega.{arith}
 use Rattle.sources.proofs.SliceSources.{rom-fitting, slices-rom, slices-kept}
 use mathlib.Core.Path.{_∙_}
 use borrow.Author.Needs.{needs}
@@ -14,8 +15,10 @@ enum-known-source : tie.Need-enum-known-source
 enum-known-source c = search needs
 
 rom-slices-requires : tie.Need-rom-slices-requires
-rom-slices-requires c κs = let s = c .before .before .before in
-    (search needs, rom-fitting (s .before .before .before .before .args .shown) (s .before .before .before .before .args .cell) _ _ (s .cell-source .ensures) (c .before .source .given .1))
+rom-slices-requires c κs =
+    let s = c .before .before .before in
+    let x = s .before .before .before .before in
+    omega (arith, x .pre .1, rom-fitting (x .args .shown) (x .args .cell) _ _ (s .cell-source .ensures) (c .before .source .given .1))
 
 enum-known-source-2 : tie.Need-enum-known-source-2
 enum-known-source-2 c = search needs

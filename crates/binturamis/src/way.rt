@@ -1,0 +1,42 @@
+// The two ways of a write, by the board's byte: 0, for an EF9345 with 16 blocks, has a way of its own, in which nothing is worked out from the board.
+ghost use mathlib.Core.Path.{_≡_};
+ghost use lib.ListN.{getD};
+ghost use Rattle.processor.specs.States.{chip};
+ghost use Rattle.processor.specs.Access.{written};
+ghost use Rattle.packing.specs.Layouts.{unpacked};
+ghost use Rattle.kept.specs.Orders.{isEarly};
+ghost use Rattle.binturamis.specs.Calls.{called, callOf};
+use crate::access::early;
+use crate::leave::leave_written;
+use board::BLOCKS;
+use board::Part;
+use packing::layout::packed;
+use packing::layout::unpacked;
+use packing::layout::unpacked_as;
+use processor::state::Processor;
+
+// The processor of bytes that have 0 for the board.
+pub fn unpacked_full(bytes: [u8; 64]) -> Processor
+    requires { ⌜ getD bytes 44 0 ≡ 0 ⌝ }
+    ensures { λ r. ⌜ r ≡ unpacked bytes ⌝ }
+{
+    unpacked_as(bytes, BLOCKS, Part::Ef9345)
+}
+
+// A write on any board.
+pub fn write_on_board(p: &mut [u8; 64], memory: &mut [u8], address: u8, value: u8) -> u32
+    ensures { λ r. ⌜ called (now (p .exit)) (now (memory .exit)) r ≡ callOf isEarly (now (p .entry)) (written address value (chip (unpacked (now (p .entry))) (now (memory .entry)))) ⌝ }
+{
+    let before = unpacked(*p);
+    let refused = early(memory.len(), before.blocks, address);
+    if refused != 0 {
+        return refused;
+    }
+    if address / 8 == 4 {
+        p[address as usize - 32] = value;
+        *p = packed(unpacked(*p));
+        return 0;
+    }
+    let answered = before.write(memory, address, value);
+    leave_written(p, answered)
+}
