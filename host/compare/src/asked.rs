@@ -1,6 +1,6 @@
 //! An operation as it is asked for.
 
-use second::{Mode, Operation};
+use second::{Board, Mode, Operation};
 
 use crate::lengths::Lengths;
 
@@ -21,6 +21,12 @@ impl Asked {
         }
     }
 
+    /// Power-up of a board.
+    pub fn power_up(board: Board) -> Asked {
+        let (part, blocks) = board.numbers();
+        Asked::right(Operation::PowerUp { part, blocks })
+    }
+
     /// With buffers of these lengths.
     pub fn with(operation: Operation, lengths: Lengths) -> Asked {
         Asked {
@@ -29,8 +35,8 @@ impl Asked {
         }
     }
 
-    /// The lengths that are lent in a mode and to a board of so many blocks.
-    pub fn lengths(self, mode: Option<Mode>, blocks: usize) -> Lengths {
-        self.lengths.unwrap_or_else(|| Lengths::right(mode, blocks))
+    /// The lengths that are lent in a mode and to a board.
+    pub fn lengths(self, mode: Option<Mode>, board: Board) -> Lengths {
+        self.lengths.unwrap_or_else(|| Lengths::right(mode, board))
     }
 }

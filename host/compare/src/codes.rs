@@ -2,9 +2,11 @@
 
 use second::address::{code_block, place};
 use second::code::Code;
-use second::page::{first_block, screen_y};
+use second::page::screen_y;
 use second::random::Random;
-use second::{BLOCK, COLUMNS, POSITIONS, ROWS};
+use second::{COLUMNS, POSITIONS, ROWS};
+
+use crate::filling::Shown;
 
 #[derive(Clone, Copy, Debug, PartialEq, Eq)]
 pub enum Codes {
@@ -21,14 +23,14 @@ pub enum Codes {
 pub const CODES: [Codes; 4] = [Codes::AnyBytes, Codes::Text, Codes::Mosaics, Codes::ByTurns];
 
 impl Codes {
-    /// A memory of so many blocks in which ROR shows such a page, as far as it is fitted.
-    pub fn memory(self, random: &mut Random, ror: u8, blocks: usize) -> Vec<u8> {
-        let mut memory = random.bytes(BLOCK * blocks);
+    /// A memory of the board in which such a page is shown, as far as it is fitted.
+    pub fn memory(self, random: &mut Random, shown: Shown) -> Vec<u8> {
+        let mut memory = random.bytes(shown.board.memory());
         match self {
             Codes::AnyBytes => {}
-            Codes::Text => fill(&mut memory, ror, |_| words(random)),
-            Codes::Mosaics => fill(&mut memory, ror, |_| line(|_| mosaic(random))),
-            Codes::ByTurns => fill(&mut memory, ror, |row| {
+            Codes::Text => fill(&mut memory, shown, |_| words(random)),
+            Codes::Mosaics => fill(&mut memory, shown, |_| line(|_| mosaic(random))),
+            Codes::ByTurns => fill(&mut memory, shown, |row| {
                 line(|position| match (row + position) % 2 {
                     0 => mosaic(random),
                     _ => character(random),
@@ -47,16 +49,16 @@ fn line(code: impl FnMut(usize) -> Code) -> Line {
 
 /// Stores the codes that are given for each row of the shown page. The C bytes of even positions are
 /// in the first block, those of odd ones in the second, and two nibbles in each byte of the third.
-fn fill(memory: &mut [u8], ror: u8, mut given: impl FnMut(usize) -> Line) {
+fn fill(memory: &mut [u8], shown: Shown, mut given: impl FnMut(usize) -> Line) {
     for row in 0..ROWS {
         let codes = given(row);
         for x in 0..COLUMNS {
             let (even, odd) = (codes[2 * x], codes[2 * x + 1]);
             let bytes = [even.c, odd.c, 16 * even.nibble + odd.nibble];
             for (number, value) in bytes.into_iter().enumerate() {
-                let block = code_block(first_block(ror), number);
+                let block = code_block(shown.first_block(), number);
                 // A place past the end is not fitted.
-                if let Some(byte) = memory.get_mut(place(x, screen_y(ror, row), block)) {
+                if let Some(byte) = memory.get_mut(place(x, screen_y(shown.ror, row), block)) {
                     *byte = value;
                 }
             }

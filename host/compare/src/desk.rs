@@ -1,7 +1,7 @@
 //! A processor with the buffers that are lent to it, of which any length can be lent. The library's
 //! and the second program's stand at desks of the same kind, so that both are asked the same.
 
-use second::{Answer, Mode, Operation};
+use second::{Answer, Board, Mode, Operation};
 
 use crate::asked::Asked;
 use crate::lengths::Lengths;
@@ -11,8 +11,8 @@ use crate::report::Report;
 pub trait Side {
     fn power_up() -> Self;
 
-    /// The blocks of its board.
-    fn blocks(&self) -> usize;
+    /// Its part and its blocks.
+    fn board(&self) -> Board;
 
     /// The mode that its TGS names.
     fn mode(&self) -> Option<Mode>;
@@ -50,15 +50,15 @@ impl<S: Side> Desk<S> {
     }
 
     /// The same with the processor of a board.
-    pub fn begin_board(blocks: u8, memory: Vec<u8>, rom: Vec<u8>) -> Desk<S> {
+    pub fn begin_board(board: Board, memory: Vec<u8>, rom: Vec<u8>) -> Desk<S> {
         let mut desk = Desk::begin(memory, rom);
-        let report = desk.apply(Asked::right(Operation::PowerUp { blocks }));
-        assert_eq!(report.number, 0, "there is no board of {blocks} blocks");
+        let report = desk.apply(Asked::power_up(board));
+        assert_eq!(report.number, 0, "{board:?} is powered up");
         desk
     }
 
     pub fn apply(&mut self, asked: Asked) -> Report {
-        let lengths = asked.lengths(self.processor.mode(), self.processor.blocks());
+        let lengths = asked.lengths(self.processor.mode(), self.processor.board());
         let lent = Lent {
             memory: &mut self.memory[..lengths.memory],
             rom: &self.rom[..lengths.rom],

@@ -24,8 +24,8 @@ pub fn assert_same(page: &Page, drawn: &[u8], wanted: &[u8]) {
 
 fn registers(page: &Page) -> String {
     format!(
-        "{} blocks, TGS {:02X}, MAT {:02X}, PAT {:02X}, DOR {:02X}, ROR {:02X}, phase {}",
-        page.blocks, page.tgs, page.mat, page.pat, page.dor, page.ror, page.phase
+        "{:?}, TGS {:02X}, MAT {:02X}, PAT {:02X}, DOR {:02X}, ROR {:02X}, phase {}",
+        page.board, page.tgs, page.mat, page.pat, page.dor, page.ror, page.phase
     )
 }
 

@@ -2,7 +2,7 @@
 //! that are refused.
 
 use second::random::Random;
-use second::{Mode, BLOCK, BOARDS, MEMORY, ROM};
+use second::{Board, Mode, Part};
 
 /// The bytes that each buffer has past its right length.
 pub const SPARE: usize = 16;
@@ -15,49 +15,63 @@ pub struct Lengths {
 }
 
 impl Lengths {
-    /// The whole buffers. The memory is long enough for every board, and the picture for 80 columns.
+    /// The whole buffers. The memory and the ROM are long enough for every board, and the picture for 80
+    /// columns.
     pub const WHOLE: Lengths = Lengths {
-        memory: MEMORY + SPARE,
-        rom: ROM + SPARE,
+        memory: Board::TS9347.memory() + SPARE,
+        rom: Part::Ef9345.rom() + SPARE,
         picture: Mode::Eighty.picture() + SPARE,
     };
 
-    /// The right ones of a mode and of a board of so many blocks. Where TGS names no mode a draw is
-    /// refused whatever the picture.
-    pub fn right(mode: Option<Mode>, blocks: usize) -> Lengths {
+    /// The right ones of a mode and of a board. Where TGS names no mode a draw is refused whatever the
+    /// picture.
+    pub fn right(mode: Option<Mode>, board: Board) -> Lengths {
         Lengths {
-            memory: BLOCK * blocks,
-            rom: ROM,
+            memory: board.memory(),
+            rom: board.part.rom(),
             picture: mode.unwrap_or(Mode::Forty).picture(),
         }
     }
 
     /// Each length right or wrong by itself, so that the order of the checks shows.
-    pub fn any(random: &mut Random, blocks: usize) -> Lengths {
+    pub fn any(random: &mut Random, board: Board) -> Lengths {
         Lengths {
-            memory: any_memory(random, blocks),
-            rom: right_or_wrong(random, ROM, 2),
-            ..Lengths::any_picture(random, blocks)
+            memory: any_memory(random, board),
+            rom: any_rom(random, board.part),
+            ..Lengths::any_picture(random, board)
         }
     }
 
     /// Right ones but for the picture's, which most often is right for one of the modes.
-    pub fn any_picture(random: &mut Random, blocks: usize) -> Lengths {
+    pub fn any_picture(random: &mut Random, board: Board) -> Lengths {
         let mode = random.choice(&[Mode::Forty, Mode::Eighty]);
         Lengths {
             picture: right_or_wrong(random, mode.picture(), 4),
-            ..Lengths::right(Some(mode), blocks)
+            ..Lengths::right(Some(mode), board)
         }
     }
 }
 
-/// The board's every second time; else that of any of the three boards, or one that is wrong.
-fn any_memory(random: &mut Random, blocks: usize) -> usize {
-    let of_a_board = BLOCK * random.choice(&BOARDS);
+/// The board's every second time; else that of any of the four boards, or one that is wrong.
+fn any_memory(random: &mut Random, board: Board) -> usize {
+    let of_a_board = random.choice(&Board::ALL).memory();
     match random.below(4) {
         0 => of_a_board,
-        1 => wrong(random, BLOCK * blocks),
-        _ => BLOCK * blocks,
+        1 => wrong(random, board.memory()),
+        _ => board.memory(),
+    }
+}
+
+/// The part's every second time; else that of the other part, or one that is wrong.
+fn any_rom(random: &mut Random, part: Part) -> usize {
+    let other = match part {
+        Part::Ef9345 => Part::Ts9347,
+        Part::Ts9347 => Part::Ef9345,
+    };
+    match random.below(6) {
+        0 => other.rom(),
+        1 | 2 => wrong(random, part.rom()),
+        _ => part.rom(),
     }
 }
 

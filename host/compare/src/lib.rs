@@ -3,7 +3,8 @@
 //! interface, `host/binturamis`, and so through its C interface.
 //!
 //! There are random sequences of operations and random pages, in 40 columns and in 80 and on each of the
-//! three boards, and both count what they met, so that tame ones are seen.
+//! four boards, three with the EF9345 and one with the TS9347, and both count what they met, so that tame
+//! ones are seen.
 
 pub mod amount;
 pub mod asked;
@@ -23,4 +24,5 @@ mod second_program;
 pub mod seen;
 pub mod short;
 pub mod trial;
+pub mod types;
 pub mod unplanned;

@@ -1,7 +1,7 @@
 //! The library as one of the two sides, through its Rust interface.
 
 use binturamis::Processor;
-use second::{Answer, Mode, Operation};
+use second::{Answer, Board, Mode, Operation, Part};
 
 use crate::desk::{Lent, Side};
 use crate::report::Report;
@@ -11,17 +11,22 @@ impl Side for Processor {
         Processor::power_up()
     }
 
-    fn blocks(&self) -> usize {
-        usize::from(self.state().blocks)
+    fn board(&self) -> Board {
+        let state = self.state();
+        let part = Part::numbered(state.part);
+        Board {
+            part: part.unwrap_or_else(|| panic!("the part is {}", state.part)),
+            blocks: usize::from(state.blocks),
+        }
     }
 
     fn mode(&self) -> Option<Mode> {
-        Mode::of(self.state().tgs)
+        Mode::of(self.board().part, self.state().tgs)
     }
 
     fn operate(&mut self, operation: Operation, lent: Lent) -> Answer {
         match operation {
-            Operation::PowerUp { blocks } => match binturamis::power_up(self, blocks) {
+            Operation::PowerUp { part, blocks } => match binturamis::power_up(self, part, blocks) {
                 Ok(()) => answer(0, 0),
                 Err(refusal) => answer(refusal.number(), 0),
             },

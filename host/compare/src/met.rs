@@ -1,5 +1,6 @@
 //! What the operations of the trials met, counted, so that a tame choice of them is seen.
 
+mod blocks;
 mod boards;
 mod fitted;
 mod in_mode;
@@ -10,6 +11,8 @@ use std::fmt;
 use second::Mode;
 
 use crate::trial::Step;
+use crate::types::TYPES;
+pub use blocks::Blocks;
 pub use boards::Boards;
 pub use fitted::Fitted;
 pub use in_mode::InMode;
@@ -26,7 +29,10 @@ pub struct Met {
     lx: [usize; 2],
     /// Cells of a palette of 0, 1, 2 and 3 colours that were redrawn with a rank missing.
     short: [usize; 4],
+    /// Cells of each type of the TS9347 that were redrawn, and those of them that are double height.
+    types: [[usize; 2]; TYPES.len()],
     pub fitted: Fitted,
+    pub blocks: Blocks,
 }
 
 impl Met {
@@ -42,7 +48,12 @@ impl Met {
         for (count, cells) in self.short.iter_mut().zip(step.short) {
             *count += cells;
         }
+        for (counts, cells) in self.types.iter_mut().zip(step.types) {
+            counts[0] += cells[0];
+            counts[1] += cells[1];
+        }
         self.fitted.look(step);
+        self.blocks.look(step);
     }
 
     fn modes(&self) -> [&InMode; 3] {
@@ -63,6 +74,12 @@ impl Met {
         assert!(self.lx.iter().all(|count| *count >= least), "{self}");
     }
 
+    /// Fails where a type of the TS9347's cells, or its double height, was redrawn fewer times than `least`.
+    pub fn assert_types(&self, least: usize) {
+        let mut cells = self.types.iter().flatten();
+        assert!(cells.all(|cells| *cells >= least), "{self}");
+    }
+
     /// Fails where a short palette, of none to three colours, was redrawn fewer times than `least`.
     pub fn assert_short_palettes(&self, least: usize) {
         assert!(self.short.iter().all(|cells| *cells >= least), "{self}");
@@ -75,9 +92,12 @@ impl fmt::Display for Met {
         writeln!(to, "in 40 columns\n{}", self.forty)?;
         writeln!(to, "in 80 columns\n{}", self.eighty)?;
         writeln!(to, "in no mode\n{}", self.neither)?;
-        let numbers: Vec<usize> = (0..13).map(|number| self.times(number)).collect();
-        writeln!(to, "numbers 0 to 12 in all: {numbers:?} times")?;
+        let numbers: Vec<usize> = (0..15).map(|number| self.times(number)).collect();
+        writeln!(to, "numbers 0 to 14 in all: {numbers:?} times")?;
         writeln!(to, "{}", self.fitted)?;
+        writeln!(to, "{}", self.blocks)?;
+        let names = TYPES.map(|(name, _)| name);
+        writeln!(to, "cells of {names:?}, double height: {:?}", self.types)?;
         writeln!(to, "left with LXm, LXa set: {:?} times", self.lx)?;
         let short = self.short;
         write!(to, "cells of 0 to 3 colours with a rank missing: {short:?}")

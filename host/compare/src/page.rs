@@ -3,19 +3,18 @@
 
 use second::picture::View;
 use second::random::Random;
-use second::{Mode, Processor, BLOCKS, ROM, ROWS};
+use second::{Board, Mode, Processor, ROWS};
 
 use crate::amount::at_least;
 use crate::codes::CODES;
-use crate::filling::FILLINGS;
+use crate::filling::{Shown, FILLINGS};
 
 pub struct Page {
     pub seed: u64,
     /// How the memory was filled, to be told.
     pub filling: String,
     pub mode: Mode,
-    /// Of the board.
-    pub blocks: usize,
+    pub board: Board,
     pub tgs: u8,
     pub mat: u8,
     pub pat: u8,
@@ -32,20 +31,20 @@ pub struct Page {
 impl Page {
     /// The page of a seed with every row marked, over a picture of any bytes, on the board of 16 blocks.
     pub fn fresh(mode: Mode, seed: u64) -> Page {
-        Page::fresh_on(BLOCKS, mode, seed)
+        Page::fresh_on(Board::SIXTEEN, mode, seed)
     }
 
     /// The same on a board.
-    pub fn fresh_on(blocks: usize, mode: Mode, seed: u64) -> Page {
+    pub fn fresh_on(board: Board, mode: Mode, seed: u64) -> Page {
         let mut random = Random::new(seed);
-        let ror = any_ror(&mut random, blocks);
+        let ror = any_ror(&mut random, board);
         let pat = random.byte() % 0x80;
-        let (filling, dor, memory) = filled(mode, seed, &mut random, ror, blocks);
+        let (filling, dor, memory) = filled(mode, seed, &mut random, ror, board);
         Page {
             seed,
             filling,
             mode,
-            blocks,
+            board,
             tgs: mode.tgs() + random.byte() % 0x20,
             mat: random.byte(),
             pat,
@@ -54,23 +53,23 @@ impl Page {
             phase: random.byte() % 2,
             marks: [true; ROWS],
             memory,
-            rom: random.bytes(ROM),
+            rom: random.bytes(board.part.rom()),
             picture: random.bytes(mode.picture()),
         }
     }
 
     /// The same page with some rows marked: from none of them to all.
     pub fn partly_marked(mode: Mode, seed: u64) -> Page {
-        Page::partly_marked_on(BLOCKS, mode, seed)
+        Page::partly_marked_on(Board::SIXTEEN, mode, seed)
     }
 
     /// The same on a board.
-    pub fn partly_marked_on(blocks: usize, mode: Mode, seed: u64) -> Page {
+    pub fn partly_marked_on(board: Board, mode: Mode, seed: u64) -> Page {
         let mut random = Random::new(!seed);
         let in_twelve = random.choice(&[0, 1, 3, 6, 9, 11, 12]);
         Page {
             marks: [(); ROWS].map(|()| random.below(12) < in_twelve),
-            ..Page::fresh_on(blocks, mode, seed)
+            ..Page::fresh_on(board, mode, seed)
         }
     }
 
@@ -98,16 +97,16 @@ impl Page {
             ror: self.ror,
             phase: self.phase,
             marks: self.marks,
-            blocks: self.blocks,
+            board: self.board,
             ..Processor::power_up()
         }
     }
 }
 
 /// A value for ROR whose page can be drawn. On a smaller board most pages have a block that is fitted.
-pub fn any_ror(random: &mut Random, blocks: usize) -> u8 {
+pub fn any_ror(random: &mut Random, board: Board) -> u8 {
     let any = random.byte() % 8;
-    let page = match (blocks, any) {
+    let page = match (board.blocks, any) {
         (2, 0..=5) => any % 2,
         (8, 0..=5) => any % 4,
         _ => any,
@@ -121,20 +120,20 @@ fn filled(
     seed: u64,
     random: &mut Random,
     ror: u8,
-    blocks: usize,
+    board: Board,
 ) -> (String, u8, Vec<u8>) {
     let turn = |fillings: usize| (seed % fillings as u64) as usize;
     match mode {
         Mode::Forty => {
             let filling = FILLINGS[turn(FILLINGS.len())];
-            let dor = filling.dor(random, ror);
-            let memory = filling.memory(random, ror, blocks);
+            let dor = filling.dor(random, board.part, ror);
+            let memory = filling.memory(random, Shown { board, ror, dor });
             (format!("{filling:?}"), dor, memory)
         }
         Mode::Eighty => {
             let codes = CODES[turn(CODES.len())];
             let dor = random.byte();
-            let memory = codes.memory(random, ror, blocks);
+            let memory = codes.memory(random, Shown { board, ror, dor });
             (format!("{codes:?}"), dor, memory)
         }
     }

@@ -1,7 +1,7 @@
 //! The library and the second program side by side: both do each operation, and then the answer,
 //! the state, the memory and the picture are compared whole.
 
-use second::Mode;
+use second::{Board, Mode};
 
 use crate::asked::Asked;
 use crate::desk::Desk;
@@ -26,11 +26,11 @@ impl Pair {
     }
 
     /// The same with the processors of a board.
-    pub fn begin_board(seed: u64, blocks: u8, memory: Vec<u8>, rom: Vec<u8>) -> Pair {
+    pub fn begin_board(seed: u64, board: Board, memory: Vec<u8>, rom: Vec<u8>) -> Pair {
         Pair::of(
             seed,
-            Desk::begin_board(blocks, memory.clone(), rom.clone()),
-            Desk::begin_board(blocks, memory, rom),
+            Desk::begin_board(board, memory.clone(), rom.clone()),
+            Desk::begin_board(board, memory, rom),
         )
     }
 

@@ -17,6 +17,7 @@ pub struct Report {
     pub phase: u8,
     pub marks: [u8; ROWS],
     /// Of the board.
+    pub part: u8,
     pub blocks: u8,
 }
 
@@ -24,6 +25,7 @@ impl Report {
     /// What the second program answers and leaves. It has no indirect registers but the five of
     /// the rules page: the others stay 0.
     pub fn wanted(answer: Answer, left: &Processor) -> Report {
+        let (part, blocks) = left.board.numbers();
         Report {
             number: answer.number,
             value: answer.value,
@@ -33,7 +35,8 @@ impl Report {
             lxa: u8::from(left.lx_auxiliary),
             phase: left.phase,
             marks: left.marks.map(u8::from),
-            blocks: u8::try_from(left.blocks).expect("a board has few blocks"),
+            part,
+            blocks,
         }
     }
 
@@ -41,7 +44,6 @@ impl Report {
     /// status LXm and LXa are kept, since a status that is not theirs fails here.
     pub fn told(answer: Answer, state: &[u8; STATE_BYTES]) -> Report {
         let (lxm, lxa) = lx_bits(state[8]);
-        assert_eq!(state[40], 0, "the byte past the marks");
         assert_eq!(state[42..], [0; 6], "the bytes past the blocks");
         let [tgs, mat, pat, dor, ror] = part(state, 9);
         Report {
@@ -55,17 +57,22 @@ impl Report {
             lxa,
             phase: state[14],
             marks: part(state, 15),
+            part: state[40],
             blocks: state[41],
         }
     }
 
     /// The bytes that the library keeps of a processor in this state. They have all eight indirect
-    /// registers, while it tells five. Of the boards that of 16 blocks is a 0.
+    /// registers, while it tells five. Of the boards that of 16 blocks is a 0, and that of 32, the TS9347's, a 4.
     pub fn packed(&self) -> [u8; PROCESSOR_BYTES] {
         let flags = [self.lxm, self.lxa, self.phase];
         let parts: [&[u8]; 4] = [&self.registers, &self.indirect, &flags, &self.marks];
         let mut bytes = parts.concat();
-        bytes.push(self.blocks % 16);
+        bytes.push(match self.blocks {
+            16 => 0,
+            32 => 4,
+            blocks => blocks,
+        });
         bytes.resize(PROCESSOR_BYTES, 0);
         part(&bytes, 0)
     }

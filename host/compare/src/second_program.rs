@@ -1,6 +1,6 @@
 //! The second program as the other of the two sides.
 
-use second::{Answer, Mode, Operation, Processor};
+use second::{Answer, Board, Mode, Operation, Processor};
 
 use crate::desk::{Lent, Side};
 use crate::report::Report;
@@ -10,8 +10,8 @@ impl Side for Processor {
         Processor::power_up()
     }
 
-    fn blocks(&self) -> usize {
-        self.blocks
+    fn board(&self) -> Board {
+        self.board
     }
 
     fn mode(&self) -> Option<Mode> {
@@ -20,8 +20,8 @@ impl Side for Processor {
 
     fn operate(&mut self, operation: Operation, lent: Lent) -> Answer {
         match operation {
-            Operation::PowerUp { blocks } => {
-                let (processor, answer) = Processor::power_up_board(blocks);
+            Operation::PowerUp { part, blocks } => {
+                let (processor, answer) = Processor::power_up_board(part, blocks);
                 *self = processor;
                 answer
             }

@@ -3,15 +3,18 @@
 
 use std::collections::VecDeque;
 
+use second::cell::Cell;
+use second::picture::View;
 use second::random::Random;
 use second::sequence::Sequence;
-use second::{Mode, Operation, Processor, ROWS};
+use second::{Board, Mode, Operation, Part, Processor, ROWS};
 
 use crate::asked::Asked;
 use crate::lengths::Lengths;
 use crate::pair::Pair;
 use crate::report::Report;
 use crate::short::short_palette;
+use crate::types::{type_of, TYPES};
 use crate::unplanned::unplanned;
 
 /// The operations of one trial.
@@ -19,7 +22,7 @@ pub const OPERATIONS: u64 = 500;
 
 /// The trial of a seed on a board. It may be another one for a few operations.
 pub struct Trial {
-    blocks: u8,
+    board: Board,
     sequence: Sequence,
     random: Random,
     pair: Pair,
@@ -44,20 +47,22 @@ pub struct Step {
     pub other_mode: bool,
     /// The cells of a palette of 0, 1, 2 and 3 colours that a draw has redrawn with a rank missing.
     pub short: [usize; 4],
+    /// The cells of each type of the TS9347 that a draw has redrawn, and of those double height.
+    pub types: [[usize; 2]; TYPES.len()],
 }
 
 impl Trial {
-    pub fn new(seed: u64, blocks: u8) -> Trial {
+    pub fn new(seed: u64, board: Board) -> Trial {
         let mut sequence = Sequence::new(seed);
         let mut random = Random::new(!seed);
-        let mut memory = sequence.memory(usize::from(blocks));
+        let mut memory = sequence.memory(board.blocks);
         memory.extend(random.bytes(Lengths::WHOLE.memory - memory.len()));
         let rom = random.bytes(Lengths::WHOLE.rom);
         Trial {
-            blocks,
+            board,
             sequence,
             random,
-            pair: Pair::begin_board(seed, blocks, memory, rom),
+            pair: Pair::begin_board(seed, board, memory, rom),
             unplanned: VecDeque::new(),
             drawn: None,
         }
@@ -81,24 +86,48 @@ impl Trial {
             other_picture,
             other_mode: is_drawn && self.has_turned(before.mode()),
             short: self.short(before.marks, is_drawn),
+            types: self.types(before.marks, is_drawn),
             before,
             report,
         }
     }
 
-    /// The cells of short palettes among some rows that were drawn, of a page of 40 columns.
-    fn short(&self, rows: [bool; ROWS], is_drawn: bool) -> [usize; 4] {
+    /// What the second program draws from.
+    fn view(&self) -> View<'_> {
         let second = &self.pair.second;
         let memory = &second.memory[..second.processor.memory_length()];
-        let view = second.processor.view(memory, &second.rom);
+        second.processor.view(memory, &second.rom)
+    }
+
+    /// The cells of some rows that were drawn, of a page of 40 columns.
+    fn cells(&self, rows: [bool; ROWS], is_drawn: bool) -> Vec<Cell> {
+        let page = self.view().page;
+        let is_shown = is_drawn && page.mode == Mode::Forty;
+        let marked = (0..ROWS).filter(|row| is_shown && rows[*row]);
+        marked
+            .flat_map(|row| page.cells(row).collect::<Vec<Cell>>())
+            .collect()
+    }
+
+    /// The cells of short palettes among them.
+    fn short(&self, rows: [bool; ROWS], is_drawn: bool) -> [usize; 4] {
+        let view = self.view();
         let mut counts = [0; 4];
-        if !is_drawn || view.page.mode != Mode::Forty {
-            return counts;
-        }
-        let marked = (0..ROWS).filter(|row| rows[*row]);
-        let cells = marked.flat_map(|row| view.page.cells(row));
+        let cells = self.cells(rows, is_drawn).into_iter();
         for colours in cells.filter_map(|cell| short_palette(&view, cell)) {
             counts[colours] += 1;
+        }
+        counts
+    }
+
+    /// Those of each type, if they are the TS9347's.
+    fn types(&self, rows: [bool; ROWS], is_drawn: bool) -> [[usize; 2]; TYPES.len()] {
+        let mut counts = [[0; 2]; TYPES.len()];
+        let cells = self.cells(rows, is_drawn).into_iter();
+        for cell in cells.filter(|cell| cell.part == Part::Ts9347) {
+            let [all, double_height] = &mut counts[type_of(cell)];
+            *all += 1;
+            *double_height += usize::from(cell.is_double_height());
         }
         counts
     }
@@ -120,7 +149,7 @@ impl Trial {
     /// Any bytes in place of the library's picture, of which a draw of every row leaves none.
     fn lend_other_picture(&mut self, asked: Asked) {
         let second = &self.pair.second.processor;
-        let length = asked.lengths(second.mode(), second.blocks).picture;
+        let length = asked.lengths(second.mode(), second.board).picture;
         let other = self.random.bytes(length);
         self.pair.library.picture[..length].copy_from_slice(&other);
     }
@@ -130,7 +159,7 @@ impl Trial {
     fn asked(&mut self) -> Asked {
         if self.unplanned.is_empty() && self.random.one_in(8) {
             self.unplanned
-                .extend(unplanned(&mut self.random, self.blocks));
+                .extend(unplanned(&mut self.random, self.board));
         }
         if let Some(asked) = self.unplanned.pop_front() {
             return asked;

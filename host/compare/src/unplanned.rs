@@ -2,7 +2,7 @@
 //! pages and boards that are.
 
 use second::random::Random;
-use second::{Mode, Operation, BOARDS};
+use second::{Board, Mode, Operation, Part};
 
 use crate::asked::Asked;
 use crate::lengths::Lengths;
@@ -16,22 +16,23 @@ const POINTING: [u8; 16] = [
     0x00, 0x01, 0x08, 0x09, 0x30, 0x31, 0x34, 0x35, 0x38, 0x39, 0x3C, 0x3D, 0x50, 0x51, 0x58, 0x59,
 ];
 
-/// A few operations, to a board of so many blocks. Sequences keep commands, pointers and pages legal for
-/// the most part, so that refusals 3, 4, 7 and 8 are rare in them, and they power nothing up.
-pub fn unplanned(random: &mut Random, blocks: u8) -> Vec<Asked> {
-    match random.below(48) {
+/// A few operations, to a board. Sequences keep commands, pointers and pages legal for the most part, so
+/// that refusals 3, 4, 7 and 8 are rare in them, and they power nothing up.
+pub fn unplanned(random: &mut Random, board: Board) -> Vec<Asked> {
+    match random.below(49) {
         0..=3 => any_command(random),
-        4..=7 => any_pointer(random),
-        8..=12 => other_page(random),
-        13..=16 => any_position(random),
-        17 => other_board(random, blocks),
-        18 | 19 => wrong_board(random, blocks),
-        _ => vec![any_operation(random, usize::from(blocks))],
+        4..=9 => any_pointer(random),
+        10..=14 => other_page(random),
+        15..=18 => any_position(random),
+        19 => other_board(random, board),
+        20 | 21 => no_board(random, board),
+        22 => vec![other_picture(random, board)],
+        _ => vec![any_operation(random, board)],
     }
 }
 
 /// Any operation, lent buffers of any lengths.
-fn any_operation(random: &mut Random, blocks: usize) -> Asked {
+fn any_operation(random: &mut Random, board: Board) -> Asked {
     let operation = match random.below(4) {
         0 => Operation::Write {
             address: address(random),
@@ -45,54 +46,94 @@ fn any_operation(random: &mut Random, blocks: usize) -> Asked {
         },
         _ => Operation::Draw,
     };
-    Asked::with(operation, Lengths::any(random, blocks))
+    Asked::with(operation, Lengths::any(random, board))
 }
 
 /// Power-up of any board, a few operations to it, and the board that it was.
-fn other_board(random: &mut Random, blocks: u8) -> Vec<Asked> {
-    let other = random.choice(&BOARDS) as u8;
-    between_boards(random, other, other, blocks)
+fn other_board(random: &mut Random, board: Board) -> Vec<Asked> {
+    let other = random.choice(&Board::ALL);
+    between_boards(random, other.numbers(), other, board)
 }
 
-/// Power-up of a board that there is not, a few operations to that of 16 blocks, and the board that it
-/// was.
-fn wrong_board(random: &mut Random, blocks: u8) -> Vec<Asked> {
-    let near = random.choice(&[0, 1, 3, 4, 7, 9, 15, 17, 32]);
-    let far = random.byte();
-    let wrong = match far {
-        2 | 8 | 16 => near,
-        _ => random.choice(&[near, far]),
-    };
-    between_boards(random, wrong, 16, blocks)
+/// A draw into a picture of any length, with the right memory and ROM.
+fn other_picture(random: &mut Random, board: Board) -> Asked {
+    Asked::with(Operation::Draw, Lengths::any_picture(random, board))
 }
 
-/// Power-up by a number, which is to give a board of `given` blocks, and at the end power-up of another
-/// with a page that can be drawn.
-fn between_boards(random: &mut Random, number: u8, given: u8, blocks: u8) -> Vec<Asked> {
-    let mut asked = vec![power_up(number)];
-    if random.one_in(2) {
-        asked.extend(page(random, given));
-        asked.push(any_operation(random, usize::from(given)));
+/// Power-up of a board that there is not, once for its blocks and once for its part, each with a few
+/// operations to that of 16 blocks, and the board that it was.
+fn no_board(random: &mut Random, board: Board) -> Vec<Asked> {
+    let mut asked = Vec::new();
+    for numbers in [wrong_blocks(random), unknown_part(random)] {
+        asked.extend(between_boards(random, numbers, Board::SIXTEEN, board));
     }
-    asked.push(power_up(blocks));
-    asked.extend(page(random, blocks));
     asked
 }
 
-fn power_up(blocks: u8) -> Asked {
-    Asked::right(Operation::PowerUp { blocks })
+/// A part, with a number of blocks that only the other one has, or neither.
+fn wrong_blocks(random: &mut Random) -> (u8, u8) {
+    let part = random.byte() % 2;
+    let near = random.choice(&[0, 1, 3, 4, 7, 9, 15, 17, 31, 33, 64]);
+    let other = match part {
+        0 => 32,
+        _ => random.choice(&[2, 8, 16]),
+    };
+    let far = random.byte();
+    let wrong = match Board::named(part, far) {
+        Ok(_) => near,
+        Err(_) => random.choice(&[near, other, far]),
+    };
+    (part, wrong)
 }
 
-/// A page that can be drawn, in either mode, most often with a block that is fitted.
-fn page(random: &mut Random, blocks: u8) -> Vec<Asked> {
-    let mode = random.choice(&[Mode::Forty, Mode::Eighty]);
-    let ror = any_ror(random, usize::from(blocks));
-    vec![
+/// A part that there is not, with a number of blocks that one of the others has, or any.
+fn unknown_part(random: &mut Random) -> (u8, u8) {
+    let far = random.byte();
+    let part = match far {
+        0 | 1 => 2,
+        _ => random.choice(&[2, 3, 255, far]),
+    };
+    let blocks = random.byte();
+    (part, random.choice(&[2, 8, 16, 32, blocks]))
+}
+
+/// Power-up by two numbers, which is to give a board, and at the end power-up of another with a page that
+/// can be drawn. Now and then TGS names no mode before the first.
+fn between_boards(
+    random: &mut Random,
+    (part, blocks): (u8, u8),
+    given: Board,
+    board: Board,
+) -> Vec<Asked> {
+    let mut asked = Vec::new();
+    if random.one_in(4) {
+        asked.extend([write(0x21, 0x40), write(0x28, 0x81)]);
+    }
+    asked.push(Asked::right(Operation::PowerUp { part, blocks }));
+    if random.one_in(2) {
+        asked.extend(page(random, given));
+        asked.push(any_operation(random, given));
+    }
+    asked.push(Asked::power_up(board));
+    asked.extend(page(random, board));
+    asked
+}
+
+/// A page that can be drawn, in any mode of the part, most often with a block that is fitted.
+fn page(random: &mut Random, board: Board) -> Vec<Asked> {
+    let mode = random.choice(Mode::all_of(board.part));
+    let ror = any_ror(random, board);
+    let mut asked = vec![
         write(0x21, mode.tgs()),
         write(0x28, 0x81),
         write(0x21, ror),
         write(0x28, 0x87),
-    ]
+    ];
+    // DOR 7 is a bit of the first block there.
+    if board.part == Part::Ts9347 {
+        asked.extend([write(0x21, random.byte()), write(0x28, 0x84)]);
+    }
+    asked
 }
 
 /// Any byte, or an address of the processor.

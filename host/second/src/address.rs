@@ -39,7 +39,8 @@ impl Address {
     }
 }
 
-/// "Legal: X 0..39, Y 0 or 8..31". A block is four bits wide and so is always legal.
+/// "Legal: X 0..39, Y 0 or 8..31". A block is as wide as its part's pointers have it and so is always
+/// legal.
 pub fn legal(x: usize, y: usize) -> bool {
     x <= 39 && (y == 0 || (8..=31).contains(&y))
 }

@@ -6,11 +6,12 @@ use crate::code::Code;
 use crate::mode::Mode;
 use crate::operation::Operation;
 use crate::packing::in_both_halves;
+use crate::part::Part;
 use crate::picture::pixel;
 use crate::pointer::Pointer;
 use crate::processor::{Answer, Processor};
 use crate::rules::Rules;
-use crate::{LINES, MEMORY, ROM};
+use crate::{Board, LINES};
 
 #[derive(Clone, Debug, PartialEq, Eq)]
 pub struct Bench {
@@ -23,28 +24,30 @@ pub struct Bench {
 impl Bench {
     /// Power-up with zero memory, ROM and picture, which is of 40 columns.
     pub fn power_up() -> Self {
-        Bench {
-            processor: Processor::power_up(),
-            memory: vec![0; MEMORY],
-            rom: vec![0; ROM],
-            picture: vec![0; Mode::Forty.picture()],
-        }
+        Bench::power_up_board(Board::SIXTEEN)
     }
 
-    /// Power-up of a board, which must be one of the three, with zero memory of its length.
-    pub fn power_up_board(blocks: u8) -> Self {
-        let (processor, answer) = Processor::power_up_board(blocks);
-        assert_eq!(answer.number, 0, "there is no board of {blocks} blocks");
+    /// Power-up of a board, with zero memory and ROM of its lengths.
+    pub fn power_up_board(board: Board) -> Self {
+        let (part, blocks) = board.numbers();
+        let (processor, answer) = Processor::power_up_board(part, blocks);
+        assert_eq!(answer.number, 0, "{board:?} is powered up");
         Bench {
-            memory: vec![0; processor.memory_length()],
             processor,
-            ..Bench::power_up()
+            memory: vec![0; board.memory()],
+            rom: vec![0; board.part.rom()],
+            picture: vec![0; Mode::Forty.picture()],
         }
     }
 
     /// A bench whose page can be drawn: origin 8 and first block 0, everything else as at power-up.
     pub fn drawable() -> Self {
-        let mut bench = Bench::power_up();
+        Bench::drawable_board(Board::SIXTEEN)
+    }
+
+    /// The same of a board.
+    pub fn drawable_board(board: Board) -> Self {
+        let mut bench = Bench::power_up_board(board);
         bench.indirect(7, 8);
         bench
     }
@@ -88,7 +91,7 @@ impl Bench {
     /// One operation of a sequence under given rules. A draw is lent a picture of the right length.
     pub fn apply_with<R: Rules>(&mut self, rules: &R, operation: Operation) -> Answer {
         match operation {
-            Operation::PowerUp { blocks } => self.power_up_again(blocks),
+            Operation::PowerUp { part, blocks } => self.power_up_again(part, blocks),
             Operation::Write { address, value } => {
                 self.processor
                     .write_with(rules, &mut self.memory, address, value)
@@ -99,18 +102,24 @@ impl Bench {
             Operation::Turn { phase } => self.processor.turn_with(rules, &self.memory, phase),
             Operation::Draw => {
                 self.fit_picture(0xEE);
-                self.draw()
+                self.processor
+                    .draw_with(rules, &self.memory, &self.rom, &mut self.picture)
             }
         }
     }
 
-    /// Power-up of another board, or of the same: the memory that is lent from here on begins with the
-    /// bytes of the one before, and has zeros where it is longer.
-    fn power_up_again(&mut self, blocks: u8) -> Answer {
-        let (processor, answer) = Processor::power_up_board(blocks);
+    /// Power-up of another board, or of the same: the memory and the ROM that are lent from here on begin
+    /// with the bytes of those before, and have zeros where they are longer.
+    fn power_up_again(&mut self, part: u8, blocks: u8) -> Answer {
+        let (processor, answer) = Processor::power_up_board(part, blocks);
         self.memory.resize(processor.memory_length(), 0);
+        self.rom.resize(processor.board.part.rom(), 0);
         self.processor = processor;
         answer
+    }
+
+    fn part(&self) -> Part {
+        self.processor.board.part
     }
 
     /// IND r with a value.
@@ -121,7 +130,7 @@ impl Bench {
 
     /// KRF of a cell at X, Y and first block Z through the main pointer.
     pub fn store_cell(&mut self, pointer: Pointer, cell: Cell) -> Answer {
-        let (down, across) = pointer.main_registers();
+        let (down, across) = pointer.main_registers(self.part());
         self.write(0x26, down);
         self.write(0x27, across);
         self.write(0x20, 0x00);
@@ -132,7 +141,7 @@ impl Bench {
 
     /// KRL of a 12-bit code at X, Y and block Z, which is odd for an odd position.
     pub fn store_code(&mut self, pointer: Pointer, code: Code) -> Answer {
-        let (down, across) = pointer.main_registers();
+        let (down, across) = pointer.main_registers(self.part());
         self.write(0x26, down);
         self.write(0x27, across);
         self.write(0x20, 0x50);
@@ -142,7 +151,7 @@ impl Bench {
 
     /// OCT of one byte at X, Y and block Z through the main pointer.
     pub fn store_byte(&mut self, pointer: Pointer, value: u8) -> Answer {
-        let (down, across) = pointer.main_registers();
+        let (down, across) = pointer.main_registers(self.part());
         self.write(0x26, down);
         self.write(0x27, across);
         self.write(0x20, 0x30);

@@ -1,25 +1,16 @@
 //! A cell: its three bytes, its kind, its set and its attributes.
 
-/// The three bytes of a code. Two cells are the same exactly when the raw bytes are: C7 and B0
-/// count.
+use crate::part::Part;
+use crate::set::Set;
+
+/// The three bytes of a code, and the part that shows it. Two cells of a page are the same exactly when
+/// the raw bytes are: C7 and B0 count.
 #[derive(Clone, Copy, Debug, PartialEq, Eq)]
 pub struct Cell {
+    pub part: Part,
     pub c: u8,
     pub b: u8,
     pub a: u8,
-}
-
-/// The sets of a bichrome cell, with a mark for the user's.
-#[derive(Clone, Copy, Debug, PartialEq, Eq)]
-pub enum Set {
-    G0,
-    G10,
-    G11,
-    G20,
-    G21,
-    UserG0,
-    UserG10,
-    UserG11,
 }
 
 /// Where the slices of a cell are: the ROM set by its order, or a block of private memory.
@@ -34,48 +25,33 @@ fn bit(byte: u8, number: u8) -> bool {
 }
 
 impl Cell {
-    /// "Quadrichrome (both set)": B bits 7 and 6.
+    /// "Quadrichrome (both set)": B bits 7 and 6. Of the TS9347 "all cells are bichrome".
     pub fn is_quadrichrome(self) -> bool {
-        bit(self.b, 7) && bit(self.b, 6)
+        self.set().is_none()
     }
 
-    /// The set of a bichrome cell, from B7 to B4; nothing for a quadrichrome cell.
+    /// The set of a bichrome cell; nothing for a quadrichrome cell.
     pub fn set(self) -> Option<Set> {
-        match self.b >> 4 {
-            0b0000 | 0b0001 => Some(Set::G0),
-            0b0010 => Some(Set::G10),
-            0b0011 => Some(Set::G11),
-            0b0100 | 0b0101 => Some(Set::G20),
-            0b0110 | 0b0111 => Some(Set::G21),
-            0b1000 | 0b1001 => Some(Set::UserG0),
-            0b1010 => Some(Set::UserG10),
-            0b1011 => Some(Set::UserG11),
-            _ => None,
+        match self.part {
+            Part::Ef9345 => Set::of_ef9345(self.b),
+            Part::Ts9347 => Some(Set::of_ts9347(self.b)),
         }
     }
 
-    /// "Only U sets are alphanumeric": those whose code leaves B4 to the underline.
     pub fn is_alphanumeric(self) -> bool {
-        matches!(
-            self.set(),
-            Some(Set::G0 | Set::G20 | Set::G21 | Set::UserG0)
-        )
+        self.set().is_some_and(Set::is_alphanumeric)
     }
 
     /// Where the slices come from. Bits 3 to 0 of DOR name the block of G'0, bits 6 to 4 the pair
-    /// of blocks of G'10 and G'11, and bit 7 the eight blocks of the quadrichrome sets.
+    /// of blocks of G'10 and G'11, and bit 7 the eight blocks of the quadrichrome sets, or of the sets Q.
     pub fn source(self, dor: u8) -> Source {
         let dor = usize::from(dor);
         match self.set() {
-            Some(Set::G0) => Source::Rom(0),
-            Some(Set::G10) => Source::Rom(1),
-            Some(Set::G11) => Source::Rom(2),
-            Some(Set::G20) => Source::Rom(3),
-            Some(Set::G21) => Source::Rom(4),
             Some(Set::UserG0) => Source::Block(dor % 16),
             Some(Set::UserG10) => Source::Block(2 * (dor / 16 % 8)),
             Some(Set::UserG11) => Source::Block(2 * (dor / 16 % 8) + 1),
-            None => Source::Block(8 * (dor / 128) + usize::from(self.b) / 8 % 8),
+            Some(Set::Q) | None => Source::Block(8 * (dor / 128) + usize::from(self.b) / 8 % 8),
+            Some(set) => Source::Rom(rom_order(self.part, set)),
         }
     }
 
@@ -83,8 +59,9 @@ impl Cell {
         self.is_alphanumeric() && bit(self.b, 4)
     }
 
+    /// A set Q is "never double width": B3 is a part of its number.
     pub fn is_double_width(self) -> bool {
-        !self.is_quadrichrome() && bit(self.b, 3)
+        !self.is_quadrichrome() && self.set() != Some(Set::Q) && bit(self.b, 3)
     }
 
     pub fn is_concealed(self) -> bool {
@@ -121,4 +98,15 @@ impl Cell {
     pub fn k(self) -> usize {
         usize::from(self.b >> 2 & 1)
     }
+}
+
+/// The number of a set in the ROM: "sets in the order G0, G10, G11, G20, G21", and of the TS9347 "in the
+/// order G10, GOE, G0".
+fn rom_order(part: Part, set: Set) -> usize {
+    let order: &[Set] = match part {
+        Part::Ef9345 => &[Set::G0, Set::G10, Set::G11, Set::G20, Set::G21],
+        Part::Ts9347 => &[Set::G10, Set::Goe, Set::G0],
+    };
+    let number = order.iter().position(|other| *other == set);
+    number.unwrap_or_else(|| panic!("the ROM of the {part:?} has no set {set:?}"))
 }

@@ -1,6 +1,7 @@
 //! The listed commands, each by its literal bytes.
 
 use crate::address::code_block;
+use crate::part::Part;
 use crate::pointer::Which;
 
 /// The five indirect registers.
@@ -37,15 +38,15 @@ pub enum Command {
 
 impl Command {
     /// The command of a byte, or nothing for a byte that neither the page nor a request lists
-    /// (refusal 3).
-    pub fn listed(byte: u8) -> Option<Command> {
+    /// (refusal 3). The TS9347 executes "NOP, IND, KRF and OCT", and KRL not.
+    pub fn listed(part: Part, byte: u8) -> Option<Command> {
         match byte {
             0x90 | 0x91 => Some(Command::Nop),
             0x00 | 0x01 | 0x08 | 0x09 => Some(Command::Krf {
                 increment: byte % 2 == 1,
                 read: byte >= 0x08,
             }),
-            0x50 | 0x51 | 0x58 | 0x59 => Some(Command::Krl {
+            0x50 | 0x51 | 0x58 | 0x59 if part == Part::Ef9345 => Some(Command::Krl {
                 increment: byte % 2 == 1,
                 read: byte >= 0x58,
             }),

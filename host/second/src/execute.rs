@@ -3,7 +3,7 @@
 use crate::address::{code_block, fitted, place};
 use crate::command::{attributes_block, Command, Indirect};
 use crate::packing::{in_both_halves, nibble};
-use crate::pointer::{Pointer, Which};
+use crate::pointer::Which;
 use crate::processor::Processor;
 use crate::rules::Rules;
 use crate::ROWS;
@@ -11,17 +11,17 @@ use crate::ROWS;
 impl Processor {
     /// Runs the command in R0 and returns 0, or returns refusal 3, 4 or 11 with nothing done.
     pub(crate) fn execute<R: Rules>(&mut self, rules: &R, memory: &mut [u8]) -> u8 {
-        let Some(command) = Command::listed(self.registers[0]) else {
+        let Some(command) = Command::listed(self.board.part, self.registers[0]) else {
             return 3;
         };
         if let Some(which) = command.pointer() {
-            let pointer = Pointer::of(&self.registers, which);
+            let pointer = rules.pointer(self.board.part, &self.registers, which);
             if !pointer.legal() {
                 return 4;
             }
             // "11, a command any of whose bytes lies in a block not fitted, after 4".
             let blocks = command.blocks(pointer.z);
-            if blocks.iter().any(|z| !fitted(*z, self.blocks)) {
+            if blocks.iter().any(|z| !fitted(*z, self.board.blocks)) {
                 return 11;
             }
             // "An accepted KRF or OCT first clears both LX bits", and so does KRL: those are the
@@ -95,7 +95,7 @@ impl Processor {
     /// KRF's three bytes: "R1, R2, R3 are the C, B, A bytes", in that order in blocks Z, Z+1, Z+2
     /// of the district. They are three stores, each with the lists just before it.
     fn long_code<R: Rules>(&mut self, rules: &R, memory: &mut [u8], read: bool) {
-        let pointer = Pointer::of(&self.registers, Which::Main);
+        let pointer = rules.pointer(self.board.part, &self.registers, Which::Main);
         for byte in 0..3 {
             let place = place(pointer.x, pointer.y, code_block(pointer.z, byte));
             if read {
@@ -110,7 +110,7 @@ impl Processor {
     /// attributes are in a block of theirs. They are two stores, C first, each with the lists just
     /// before it. R2 stays.
     fn packed_code<R: Rules>(&mut self, rules: &R, memory: &mut [u8], read: bool) {
-        let pointer = Pointer::of(&self.registers, Which::Main);
+        let pointer = rules.pointer(self.board.part, &self.registers, Which::Main);
         let odd = pointer.z % 2 == 1;
         let attributes = place(pointer.x, pointer.y, attributes_block(pointer.z));
         if read {
@@ -125,7 +125,9 @@ impl Processor {
 
     /// OCT: R1 with one byte.
     fn one_byte<R: Rules>(&mut self, rules: &R, memory: &mut [u8], which: Which, read: bool) {
-        let place = Pointer::of(&self.registers, which).place();
+        let place = rules
+            .pointer(self.board.part, &self.registers, which)
+            .place();
         if read {
             self.registers[1] = memory[place];
         } else {

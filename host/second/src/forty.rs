@@ -16,7 +16,7 @@ impl View<'_> {
         match cell.source(self.page.dor) {
             Source::Rom(set) => self.rom[rom_place(set, cell.c, slice)],
             Source::Block(block) => {
-                let address = slice_address(cell.c, slice, block, self.page.blocks);
+                let address = slice_address(cell.c, slice, block, self.page.board.blocks);
                 address.drawn(self.page.memory)
             }
         }
@@ -34,12 +34,18 @@ impl View<'_> {
         let cell = self.page.cell(row, column);
         let slices = bichrome::slices_of_lines(cell, shows_lower(&self.page, row, column));
         let right = shows_right(&self.page, row, column);
+        let bits = [0, 1, 2, 3, 4, 5, 6, 7].map(|pixel| bichrome::bit_of_pixel(cell, right, pixel));
+        self.two_colours(cell, &slices, bits)
+    }
+
+    /// The pixels of a bichrome cell, by the slice of each line and the slice's bit of each pixel.
+    pub(crate) fn two_colours(&self, cell: Cell, slices: &[usize], bits: [usize; 8]) -> Window {
         let mut window = [[Colour::Black; 8]; LINES];
         for line in 0..LINES {
             let slice = slices[line];
             let value = self.slice(cell, slice);
             for pixel in 0..8 {
-                let bit = bichrome::bit_of_pixel(cell, right, pixel);
+                let bit = bits[pixel];
                 window[line][pixel] =
                     bichrome::colour(cell, slice, value, bit, self.pat, self.phase);
             }

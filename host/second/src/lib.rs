@@ -7,6 +7,7 @@
 pub mod address;
 pub mod bench;
 pub mod bichrome;
+pub mod board;
 pub mod cell;
 pub mod character;
 pub mod code;
@@ -25,6 +26,7 @@ pub mod operation;
 pub mod packing;
 pub mod page;
 pub mod panel;
+pub mod part;
 pub mod picture;
 pub mod pointer;
 pub mod processor;
@@ -33,24 +35,19 @@ pub mod random;
 pub mod reading;
 pub mod rules;
 pub mod sequence;
+pub mod set;
 pub mod slip;
 
+pub use board::Board;
 pub use mode::Mode;
 pub use operation::Operation;
 pub use panel::panel;
+pub use part::Part;
 pub use processor::{Answer, Processor};
 pub use slip::Slip;
 
 /// The bytes of a block of private memory.
 pub const BLOCK: usize = 1_024;
-/// The blocks that each board may have: "2, 8 or 16 blocks".
-pub const BOARDS: [usize; 3] = [2, 8, 16];
-/// The blocks of the board of which nothing else is said.
-pub const BLOCKS: usize = 16;
-/// The bytes of private memory of that board.
-pub const MEMORY: usize = 16_384;
-/// The bytes of the ROM: five sets of 128 characters of ten slices.
-pub const ROM: usize = 6_400;
 /// The rows of the screen, the service row among them.
 pub const ROWS: usize = 25;
 /// The columns of a row, each of three bytes: the cells of a row of 40 columns.

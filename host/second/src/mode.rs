@@ -1,5 +1,7 @@
 //! The mode: a page of 40 columns or of 80, and the lengths that go with it.
 
+use crate::part::Part;
+
 #[derive(Clone, Copy, Debug, PartialEq, Eq)]
 pub enum Mode {
     Forty,
@@ -8,12 +10,20 @@ pub enum Mode {
 
 impl Mode {
     /// The mode that TGS names: bits 7 and 6 both clear are 40 columns, both set are 80. One of
-    /// them alone names none, and a draw gets refusal 7.
-    pub fn of(tgs: u8) -> Option<Mode> {
-        match (tgs / 128, tgs / 64 % 2) {
-            (0, 0) => Some(Mode::Forty),
-            (1, 1) => Some(Mode::Eighty),
+    /// them alone names none, and a draw gets refusal 7. Of the TS9347 "there is no 80 column page".
+    pub fn of(part: Part, tgs: u8) -> Option<Mode> {
+        match (part, tgs / 128, tgs / 64 % 2) {
+            (_, 0, 0) => Some(Mode::Forty),
+            (Part::Ef9345, 1, 1) => Some(Mode::Eighty),
             _ => None,
+        }
+    }
+
+    /// The modes that a part has.
+    pub const fn all_of(part: Part) -> &'static [Mode] {
+        match part {
+            Part::Ef9345 => &[Mode::Forty, Mode::Eighty],
+            Part::Ts9347 => &[Mode::Forty],
         }
     }
 

@@ -2,8 +2,9 @@
 
 #[derive(Clone, Copy, Debug, PartialEq, Eq)]
 pub enum Operation {
-    /// Of a board of so many blocks.
+    /// Of a board with a part, by its number, and so many blocks.
     PowerUp {
+        part: u8,
         blocks: u8,
     },
     Write {

@@ -2,20 +2,23 @@
 //! row and a position.
 
 use crate::address::{address, code_block, Address};
+use crate::board::Board;
 use crate::cell::Cell;
 use crate::code::Code;
 use crate::mode::Mode;
 use crate::packing::nibble;
+use crate::part::Part;
 use crate::{COLUMNS, POSITIONS};
 
 /// The page that TGS, ROR and DOR choose in a memory of the right length for its board.
 #[derive(Clone, Copy)]
 pub struct Page<'a> {
     pub mode: Mode,
+    pub board: Board,
+    /// Of its three blocks.
+    pub first: usize,
     pub ror: u8,
     pub dor: u8,
-    /// Of the board.
-    pub blocks: usize,
     pub memory: &'a [u8],
 }
 
@@ -31,17 +34,22 @@ pub fn screen_y(ror: u8, row: usize) -> usize {
     8 + usize::try_from(below).expect("a remainder is not negative")
 }
 
-/// "The first block Z is even, its Z3, Z2, Z1 being ROR bits 7, 6, 5."
-pub fn first_block(ror: u8) -> usize {
-    2 * usize::from(ror >> 5)
+/// "The first block Z is even, its Z3, Z2, Z1 being ROR bits 7, 6, 5", and on the TS9347 it "has DOR 7
+/// as Z4 above ROR's bits".
+pub fn first_block(part: Part, ror: u8, dor: u8) -> usize {
+    let z4 = match part {
+        Part::Ef9345 => 0,
+        Part::Ts9347 => usize::from(dor >> 7),
+    };
+    16 * z4 + 2 * usize::from(ror >> 5)
 }
 
 impl Page<'_> {
     /// Where byte 0 (C), 1 (B) or 2 (A) of a cell is. In 80 columns the same three bytes hold the
     /// codes of two positions.
     pub fn code_address(&self, row: usize, column: usize, byte: usize) -> Address {
-        let block = code_block(first_block(self.ror), byte);
-        address(column, screen_y(self.ror, row), block, self.blocks)
+        let block = code_block(self.first, byte);
+        address(column, screen_y(self.ror, row), block, self.board.blocks)
     }
 
     /// The byte there as the page shows it: 0 where it is not fitted, "also in 'the same three
@@ -52,6 +60,7 @@ impl Page<'_> {
 
     pub fn cell(&self, row: usize, column: usize) -> Cell {
         Cell {
+            part: self.board.part,
             c: self.code_byte(row, column, 0),
             b: self.code_byte(row, column, 1),
             a: self.code_byte(row, column, 2),

@@ -18,36 +18,27 @@ pub struct View<'a> {
 impl View<'_> {
     /// The 1,600 bytes of a row, or the 2,400 of one of 80 columns.
     pub fn row(&self, row: usize) -> Vec<u8> {
-        let lines = match self.page.mode {
-            Mode::Forty => self.lines_of_columns(row),
-            Mode::Eighty => self.lines_of_positions(row),
-        };
-        lines.iter().flat_map(|line| packed(line)).collect()
-    }
-
-    /// The ten lines of a row of 40 columns, each 320 pixels from the left.
-    fn lines_of_columns(&self, row: usize) -> Vec<Vec<Colour>> {
-        let mut lines = vec![Vec::new(); LINES];
-        for column in 0..COLUMNS {
-            let window = self.window(row, column);
-            for line in 0..LINES {
-                lines[line].extend(window[line]);
+        match self.page.mode {
+            Mode::Forty => row_of((0..COLUMNS).map(|column| self.window(row, column))),
+            Mode::Eighty => {
+                row_of((0..POSITIONS).map(|position| self.narrow_window(row, position)))
             }
         }
-        lines
     }
+}
 
-    /// The ten lines of a row of 80 columns, each 480 pixels from the left.
-    fn lines_of_positions(&self, row: usize) -> Vec<Vec<Colour>> {
-        let mut lines = vec![Vec::new(); LINES];
-        for position in 0..POSITIONS {
-            let window = self.narrow_window(row, position);
-            for line in 0..LINES {
-                lines[line].extend(window[line]);
-            }
+/// The bytes of a row whose windows are these from the left: ten lines, each 40 times eight pixels or 80
+/// times six.
+pub(crate) fn row_of<const WIDTH: usize>(
+    windows: impl Iterator<Item = [[Colour; WIDTH]; LINES]>,
+) -> Vec<u8> {
+    let mut lines = vec![Vec::new(); LINES];
+    for window in windows {
+        for line in 0..LINES {
+            lines[line].extend(window[line]);
         }
-        lines
     }
+    lines.iter().flat_map(|line| packed(line)).collect()
 }
 
 /// "Two pixels a byte, the left pixel in the low four bits."

@@ -2,11 +2,12 @@
 
 use std::collections::BTreeSet;
 
+use crate::board::Board;
 use crate::mode::Mode;
-use crate::page::Page;
+use crate::page::{first_block, Page};
 use crate::picture::View;
 use crate::rules::{PageRules, Rules};
-use crate::{reading, BLOCK, BLOCKS, BOARDS, ROM, ROWS};
+use crate::{reading, ROWS};
 
 /// The whole state. Private memory, ROM and picture are the host's and are lent to each call.
 #[derive(Clone, Debug, PartialEq, Eq)]
@@ -22,8 +23,8 @@ pub struct Processor {
     pub lx_auxiliary: bool,
     pub phase: u8,
     pub marks: [bool; ROWS],
-    /// The blocks of the board: 2, 8 or 16. "The size is given at power-up and stays."
-    pub blocks: usize,
+    /// "The size is given at power-up and stays", and "the part is chosen at power-up".
+    pub board: Board,
 }
 
 /// What is handed back: the number of the page's table, and a value; the value of a draw is its
@@ -42,28 +43,28 @@ impl Answer {
 }
 
 impl Processor {
-    /// Power-up of the board that has every block.
+    /// Power-up of the EF9345 that has every block.
     pub fn power_up() -> Self {
-        Processor::powered_up(BLOCKS)
+        Processor::powered_up(Board::SIXTEEN)
     }
 
-    /// Power-up of a board of so many blocks. "12, a size that is none of the three, at power-up,
-    /// which then hands back the power-up state of the 16 block board".
-    pub fn power_up_board(blocks: u8) -> (Processor, Answer) {
-        let blocks = usize::from(blocks);
-        if BOARDS.contains(&blocks) {
-            let accepted = Answer {
-                number: 0,
-                value: 0,
-            };
-            (Processor::powered_up(blocks), accepted)
-        } else {
-            (Processor::powered_up(BLOCKS), Answer::refusal(12))
+    /// Power-up of a board with a part and so many blocks. 12 "then hands back the power-up state of the
+    /// 16 block board", and 14 "hands back what 12 does".
+    pub fn power_up_board(part: u8, blocks: u8) -> (Processor, Answer) {
+        match Board::named(part, blocks) {
+            Ok(board) => {
+                let accepted = Answer {
+                    number: 0,
+                    value: 0,
+                };
+                (Processor::powered_up(board), accepted)
+            }
+            Err(number) => (Processor::power_up(), Answer::refusal(number)),
         }
     }
 
     /// "Power-up: all registers and both LX bits 0, command 91 hex, phase 0, every row marked".
-    fn powered_up(blocks: usize) -> Self {
+    fn powered_up(board: Board) -> Self {
         Processor {
             registers: [0x91, 0, 0, 0, 0, 0, 0, 0],
             tgs: 0,
@@ -75,13 +76,13 @@ impl Processor {
             lx_auxiliary: false,
             phase: 0,
             marks: [true; ROWS],
-            blocks,
+            board,
         }
     }
 
     /// The bytes of private memory that the board has.
     pub fn memory_length(&self) -> usize {
-        BLOCK * self.blocks
+        self.board.memory()
     }
 
     pub fn write(&mut self, memory: &mut [u8], address: u8, value: u8) -> Answer {
@@ -153,6 +154,17 @@ impl Processor {
     /// "An accepted draw redraws the marked rows and no other byte, returns their number and clears
     /// the marks."
     pub fn draw(&mut self, memory: &[u8], rom: &[u8], picture: &mut [u8]) -> Answer {
+        self.draw_with(&PageRules, memory, rom, picture)
+    }
+
+    /// The draw under given rules.
+    pub fn draw_with<R: Rules>(
+        &mut self,
+        rules: &R,
+        memory: &[u8],
+        rom: &[u8],
+        picture: &mut [u8],
+    ) -> Answer {
         if let Some(number) = self.draw_refusal(memory, rom, picture) {
             return Answer::refusal(number);
         }
@@ -161,7 +173,7 @@ impl Processor {
         let mut rows = 0;
         for row in 0..ROWS {
             if self.marks[row] {
-                picture[length * row..length * (row + 1)].copy_from_slice(&view.row(row));
+                picture[length * row..length * (row + 1)].copy_from_slice(&rules.row(&view, row));
                 rows += 1;
             }
         }
@@ -200,7 +212,7 @@ impl Processor {
 
     /// The mode that TGS names, whatever a draw would be refused for.
     pub fn mode(&self) -> Option<Mode> {
-        Mode::of(self.tgs)
+        Mode::of(self.board.part, self.tgs)
     }
 
     /// The refusal 7 or 8 that a draw would get from TGS, PAT and ROR alone.
@@ -213,7 +225,8 @@ impl Processor {
     }
 
     /// The mode, or nothing with refusal 7: "TGS bits 7, 6 or 5, or PAT bit 7, not zero", and "7,
-    /// with TGS 7 and 6 both set, looks only at TGS 5 and PAT 7".
+    /// with TGS 7 and 6 both set, looks only at TGS 5 and PAT 7". Of the TS9347 it is "as in 40 columns
+    /// of the page".
     fn drawn_mode(&self) -> Option<Mode> {
         let other_format = self.tgs / 32 % 2 == 1 || self.pat / 128 == 1;
         self.mode().filter(|_| !other_format)
@@ -229,11 +242,17 @@ impl Processor {
     pub fn page<'a>(&self, memory: &'a [u8]) -> Page<'a> {
         Page {
             mode: self.mode().unwrap_or(Mode::Forty),
+            board: self.board,
+            first: self.first_block(),
             ror: self.ror,
             dor: self.dor,
-            blocks: self.blocks,
             memory,
         }
+    }
+
+    /// The first of the blocks that hold the page.
+    pub fn first_block(&self) -> usize {
+        first_block(self.board.part, self.ror, self.dor)
     }
 
     pub fn view<'a>(&self, memory: &'a [u8], rom: &'a [u8]) -> View<'a> {
@@ -252,7 +271,7 @@ impl Processor {
         if memory.len() != self.memory_length() {
             return Some(1);
         }
-        if rom.len() != ROM {
+        if rom.len() != self.board.part.rom() {
             return Some(5);
         }
         match self.drawn_mode() {

@@ -20,13 +20,13 @@ pub fn code_places(page: &Page, row: usize) -> Vec<usize> {
     places
 }
 
-/// The legal and fitted ones among the ten slices of a user or quadrichrome cell; none for a cell of
-/// the ROM. All ten count, also at low resolution.
+/// The legal and fitted ones among the ten slices of a user or quadrichrome cell, those of the sets Q
+/// among them; none for a cell of the ROM. All ten count, also at low resolution.
 pub fn slice_places(page: &Page, cell: Cell) -> Vec<usize> {
     match cell.source(page.dor) {
         Source::Rom(_) => Vec::new(),
         Source::Block(block) => (0..LINES)
-            .filter_map(|slice| slice_address(cell.c, slice, block, page.blocks).fitted())
+            .filter_map(|slice| slice_address(cell.c, slice, block, page.board.blocks).fitted())
             .collect(),
     }
 }

@@ -5,10 +5,23 @@ use crate::marks;
 use crate::mode::Mode;
 use crate::packing::with_nibble;
 use crate::page::Page;
+use crate::part::Part;
+use crate::picture::View;
+use crate::pointer::{Pointer, Which};
 
 /// A method that is not replaced is the right rule, so that a wrong one can be tried without a word
 /// of it standing in the right ones.
 pub trait Rules {
+    /// The pointer that a command of a part uses.
+    fn pointer(&self, part: Part, registers: &[u8; 8], which: Which) -> Pointer {
+        Pointer::of(part, registers, which)
+    }
+
+    /// The bytes of a row that a draw puts into the picture.
+    fn row(&self, view: &View, row: usize) -> Vec<u8> {
+        view.row(row)
+    }
+
     /// Whether a store to a place marks a row of the page just before it.
     fn store_marks(&self, page: &Page, row: usize, place: usize) -> bool {
         marks::by_store(page, row, place)

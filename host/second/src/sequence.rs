@@ -8,13 +8,14 @@ mod writes;
 
 use std::collections::VecDeque;
 
+use crate::board::Board;
 use crate::mode::Mode;
 use crate::operation::Operation;
 use crate::processor::Processor;
 use crate::random::Random;
-use crate::{BLOCK, BLOCKS};
+use crate::BLOCK;
 
-pub use choices::short_palette;
+pub use choices::{bichrome_b, short_palette};
 
 /// A source of operations: it makes small plans from the present state and hands them out one
 /// operation at a time.
@@ -88,8 +89,13 @@ impl Sequence {
         if processor.page_refusal().is_some() && self.random.one_in(4) {
             return self.mend(processor);
         }
-        // On a smaller board few other plans store outside the page.
-        if processor.blocks < BLOCKS && self.random.one_in(12) {
+        // On a smaller board, and on that of 32 blocks, few other plans store outside the page.
+        let times = match processor.board {
+            Board::SIXTEEN => None,
+            Board::TS9347 => Some(7),
+            _ => Some(12),
+        };
+        if times.is_some_and(|times| self.random.one_in(times)) {
             return self.one_byte(processor);
         }
         match self.random.below(100) {

@@ -1,5 +1,7 @@
 //! Wrong rules, planted so that the tests can show that they would see one.
 
+mod ts9347;
+
 use crate::address::{address, code_block, fitted, place};
 use crate::cell::Cell;
 use crate::code::Code;
@@ -7,7 +9,10 @@ use crate::command::Indirect;
 use crate::marks;
 use crate::mode::Mode;
 use crate::packing::with_nibble;
-use crate::page::{first_block, screen_y, Page};
+use crate::page::{screen_y, Page};
+use crate::part::Part;
+use crate::picture::View;
+use crate::pointer::{Pointer, Which};
 use crate::reading::{
     code_places, has_double_height, places, places_of_forty, slice_places, upward_places,
 };
@@ -52,11 +57,25 @@ pub enum Slip {
     NotFittedMirrored,
     /// A row has no list where a block of its codes is not fitted.
     PartlyFittedForgotten,
+    /// Of the TS9347: Z4 is left out of both pointers.
+    Z4Forgotten,
+    /// Its auxiliary pointer takes Z3 from R6 bit 6, as the EF9345's does.
+    AuxiliaryZ3InR6,
+    /// Its cells of the sets Q are drawn as quadrichrome.
+    QuadrichromeQ,
+    /// B3 of its cells of the sets Q is double width.
+    DoubleWidthQ,
+    /// Its double height cells of GOE are drawn as alphanumeric.
+    AlphanumericGoe,
+    /// DOR 7 is left out of its page's first block.
+    Dor7Forgotten,
+    /// Its ROM is read with G0 first, as the EF9345's is.
+    RomInOldOrder,
 }
 
 impl Slip {
     /// All that are planted.
-    pub const PLANTED: [Slip; 17] = [
+    pub const PLANTED: [Slip; 24] = [
         Slip::UserSliceForgotten,
         Slip::RowAboveForgotten,
         Slip::ChainStopsAfterOneRow,
@@ -74,6 +93,13 @@ impl Slip {
         Slip::NibbleFromOtherHalf,
         Slip::NotFittedMirrored,
         Slip::PartlyFittedForgotten,
+        Slip::Z4Forgotten,
+        Slip::AuxiliaryZ3InR6,
+        Slip::QuadrichromeQ,
+        Slip::DoubleWidthQ,
+        Slip::AlphanumericGoe,
+        Slip::Dor7Forgotten,
+        Slip::RomInOldOrder,
     ];
 
     /// The list that the slip takes for a row's.
@@ -81,6 +107,7 @@ impl Slip {
         match (self, page.mode) {
             (Slip::NotFittedMirrored, _) => with_mirrors(page, row),
             (Slip::PartlyFittedForgotten, _) if !is_fitted(page) => Vec::new(),
+            (Slip::Dor7Forgotten, _) => places(&ts9347::without_dor_7(page), row),
             (_, Mode::Forty) => self.places_of_forty(page, row),
             (_, Mode::Eighty) => self.places_of_eighty(page, row),
         }
@@ -109,6 +136,22 @@ impl Slip {
 }
 
 impl Rules for Slip {
+    fn pointer(&self, part: Part, registers: &[u8; 8], which: Which) -> Pointer {
+        let right = Pointer::of(part, registers, which);
+        match (self, part) {
+            (Slip::Z4Forgotten, Part::Ts9347) => ts9347::without_z4(right),
+            (Slip::AuxiliaryZ3InR6, Part::Ts9347) => ts9347::with_z3_in_r6(right, registers, which),
+            _ => right,
+        }
+    }
+
+    fn row(&self, view: &View, row: usize) -> Vec<u8> {
+        match view.page.board.part {
+            Part::Ef9345 => view.row(row),
+            Part::Ts9347 => ts9347::row(*self, view, row),
+        }
+    }
+
     fn store_marks(&self, page: &Page, row: usize, place: usize) -> bool {
         self.places(page, row).contains(&place)
     }
@@ -133,6 +176,7 @@ impl Rules for Slip {
             (Slip::PhaseForgotten, Mode::Forty) => false,
             (Slip::FlashForgottenInEighty, Mode::Eighty) => false,
             (Slip::MosaicsFlash, Mode::Eighty) => page.codes(row).any(has_bit_2),
+            (Slip::Dor7Forgotten, _) => marks::by_phase(&ts9347::without_dor_7(page), row),
             _ => marks::by_phase(page, row),
         }
     }
@@ -174,12 +218,15 @@ fn one_row_upward(page: &Page, row: usize) -> Vec<usize> {
 
 /// The 120 places of a row with A taken from block Z + 2, which may leave the district.
 fn code_places_of_next_district(page: &Page, row: usize) -> Vec<usize> {
-    let (y, third) = (screen_y(page.ror, row), (first_block(page.ror) + 2) % 16);
+    let (y, third) = (
+        screen_y(page.ror, row),
+        (page.first + 2) % page.board.part.named_blocks(),
+    );
     let mut list = Vec::new();
     for column in 0..COLUMNS {
         list.extend(page.code_address(row, column, 0).fitted());
         list.extend(page.code_address(row, column, 1).fitted());
-        list.extend(address(column, y, third, page.blocks).fitted());
+        list.extend(address(column, y, third, page.board.blocks).fitted());
     }
     list
 }
@@ -199,15 +246,14 @@ fn with_next_district(page: &Page, row: usize) -> Vec<usize> {
 
 /// Whether all three blocks of the page's codes are fitted.
 fn is_fitted(page: &Page) -> bool {
-    let first = first_block(page.ror);
-    (0..3).all(|byte| fitted(code_block(first, byte), page.blocks))
+    (0..3).all(|byte| fitted(code_block(page.first, byte), page.board.blocks))
 }
 
 /// The right list, and the places of the row's codes in the blocks modulo those that there are.
 fn with_mirrors(page: &Page, row: usize) -> Vec<usize> {
     let mut list = places(page, row);
     for byte in 0..3 {
-        let block = code_block(first_block(page.ror), byte) % page.blocks;
+        let block = code_block(page.first, byte) % page.board.blocks;
         let y = screen_y(page.ror, row);
         list.extend((0..COLUMNS).map(|column| place(column, y, block)));
     }

@@ -1,4 +1,4 @@
-//! Boards with fewer blocks (request T-06): power-up, the address answer, refusals 1, 11 and 12, and
+//! Boards of the EF9345 with fewer blocks (request T-06): power-up, the address answer, refusals 1, 11 and 12, and
 //! what is drawn and read where a block is not fitted.
 
 use second::address::{address, place, Address};
@@ -12,29 +12,33 @@ use second::processor::{Answer, Processor};
 use second::random::Random;
 use second::rules::PageRules;
 use second::sequence::Sequence;
+use second::{Board, Part};
 
-const BOARDS: [u8; 3] = [2, 8, 16];
+const BOARDS: [Board; 3] = [Board::TWO, Board::EIGHT, Board::SIXTEEN];
 
 #[test]
 fn power_up_has_three_boards_and_12_for_every_other_number() {
     for blocks in 0..=255u8 {
-        let (processor, answer) = Processor::power_up_board(blocks);
-        let fitted = if BOARDS.contains(&blocks) { blocks } else { 16 };
-        let number = if BOARDS.contains(&blocks) { 0 } else { 12 };
+        let (processor, answer) = Processor::power_up_board(0, blocks);
+        let is_board = [2, 8, 16].contains(&blocks);
+        let (fitted, number) = if is_board { (blocks, 0) } else { (16, 12) };
         assert_eq!(answer, Answer { number, value: 0 }, "{blocks} blocks");
         let expected = Processor {
-            blocks: usize::from(fitted),
+            board: Board {
+                part: Part::Ef9345,
+                blocks: usize::from(fitted),
+            },
             ..Processor::power_up()
         };
         assert_eq!(processor, expected);
         assert_eq!(processor.memory_length(), 1_024 * usize::from(fitted));
     }
-    assert_eq!(Processor::power_up().blocks, 16);
+    assert_eq!(Processor::power_up().board, Board::SIXTEEN);
 }
 
 #[test]
 fn after_12_the_memory_is_that_of_16_blocks() {
-    let (mut processor, _) = Processor::power_up_board(4);
+    let (mut processor, _) = Processor::power_up_board(0, 4);
     assert_eq!(processor.write(&mut [0; 4_096], 0x21, 1).number, 1);
     assert_eq!(processor.write(&mut [0; 16_384], 0x21, 1).number, 0);
 }
@@ -66,10 +70,10 @@ fn refusal_1_compares_with_the_size_chosen() {
         number: 1,
         value: 0,
     };
-    for blocks in BOARDS {
-        let right = 1_024 * usize::from(blocks);
+    for board in BOARDS {
+        let right = 1_024 * board.blocks;
         for length in [0, 1_024, 2_048, 8_192, 16_384, right - 1, right + 1] {
-            let mut start = Bench::power_up_board(blocks);
+            let mut start = Bench::power_up_board(board);
             start.indirect(7, 8);
             start.memory.resize(length, 0);
             let mut tried = start.clone();
@@ -98,7 +102,7 @@ const WITHOUT_BYTES: [u8; 12] = [
 ];
 
 /// The blocks whose commands are accepted on a board, written out.
-fn accepted_blocks(command: u8, blocks: u8) -> Vec<usize> {
+fn accepted_blocks(command: u8, blocks: usize) -> Vec<usize> {
     let one_byte = [OCT_MAIN, OCT_AUXILIARY].concat().contains(&command);
     match (blocks, one_byte) {
         (2, true) => vec![0, 1],
@@ -111,15 +115,15 @@ fn accepted_blocks(command: u8, blocks: u8) -> Vec<usize> {
 }
 
 /// A bench whose two pointers are in block `z`, with bytes of a kind everywhere.
-fn pointed(blocks: u8, z: usize) -> Bench {
-    let mut bench = Bench::power_up_board(blocks);
+fn pointed(board: Board, z: usize) -> Bench {
+    let mut bench = Bench::power_up_board(board);
     for (at, byte) in bench.memory.iter_mut().enumerate() {
         *byte = (at % 251) as u8;
     }
     let pointer = Pointer { x: 39, y: 8, z };
-    let (r6, r7) = pointer.main_registers();
-    let (r4, r5, z3) = pointer.auxiliary_registers();
-    let r6 = r6 + if z3 { 0x40 } else { 0 };
+    let (r6, r7) = pointer.main_registers(Part::Ef9345);
+    let (r4, r5, z3) = pointer.auxiliary_registers(Part::Ef9345);
+    let r6 = r6 + if z3 == Some(true) { 0x40 } else { 0 };
     bench.processor.registers = [0x91, 0x11, 0x22, 0x33, r4, r5, r6, r7];
     bench.processor.lx_main = true;
     bench.processor.lx_auxiliary = true;
@@ -130,13 +134,13 @@ fn pointed(blocks: u8, z: usize) -> Bench {
 #[test]
 fn refusal_11_looks_at_every_byte_of_a_command() {
     let commands = [KRF, KRL, OCT_MAIN, OCT_AUXILIARY].concat();
-    for blocks in BOARDS {
+    for board in BOARDS {
         for z in 0..16 {
             for command in commands.iter().copied() {
-                let fitted = accepted_blocks(command, blocks).contains(&z);
+                let fitted = accepted_blocks(command, board.blocks).contains(&z);
                 let number = if fitted { 0 } else { 11 };
-                let told = format!("{command:02X} in block {z} of {blocks}");
-                let mut start = pointed(blocks, z);
+                let told = format!("{command:02X} in block {z} of {board:?}");
+                let mut start = pointed(board, z);
                 start.processor.registers[0] = command;
                 let mut read = start.clone();
                 assert_eq!(
@@ -148,7 +152,7 @@ fn refusal_11_looks_at_every_byte_of_a_command() {
                     "{told}"
                 );
                 assert_eq!(read == start, number == 11, "{told}");
-                let mut written = pointed(blocks, z);
+                let mut written = pointed(board, z);
                 assert_eq!(written.write(0x28, command).number, number, "{told}");
                 assert_eq!(written == start, number == 11, "{told}");
             }
@@ -159,7 +163,7 @@ fn refusal_11_looks_at_every_byte_of_a_command() {
 #[test]
 fn commands_without_bytes_never_get_11() {
     for command in WITHOUT_BYTES {
-        assert_eq!(pointed(2, 15).write(0x28, command).number, 0);
+        assert_eq!(pointed(Board::TWO, 15).write(0x28, command).number, 0);
     }
 }
 
@@ -168,8 +172,8 @@ fn commands_without_bytes_never_get_11() {
 fn the_other_pointer_may_be_in_any_block() {
     let fitted = Pointer { x: 0, y: 8, z: 1 };
     for (command, registers) in [(0x38, [6, 7]), (0x3C, [4, 5])] {
-        let mut bench = pointed(2, 7);
-        let (down, across) = fitted.main_registers();
+        let mut bench = pointed(Board::TWO, 7);
+        let (down, across) = fitted.main_registers(Part::Ef9345);
         bench.processor.registers[registers[0]] = down;
         bench.processor.registers[registers[1]] = across;
         assert_eq!(bench.write(0x28, command).number, 0);
@@ -180,7 +184,7 @@ fn the_other_pointer_may_be_in_any_block() {
 fn an_access_is_checked_1_2_3_4_11() {
     for wrong in 0..32usize {
         let is_wrong = |check: usize| wrong >> check & 1 == 1;
-        let mut bench = pointed(2, if is_wrong(4) { 2 } else { 1 });
+        let mut bench = pointed(Board::TWO, if is_wrong(4) { 2 } else { 1 });
         bench.processor.registers[0] = if is_wrong(2) { 0x02 } else { 0x30 };
         if is_wrong(0) {
             bench.memory = vec![0; 16_384];
@@ -200,7 +204,7 @@ fn an_access_is_checked_1_2_3_4_11() {
 fn after_11_the_register_access_has_happened_and_nothing_else() {
     for command in [KRF, KRL, OCT_MAIN].concat() {
         for register in 1..6u8 {
-            let mut start = pointed(2, 2);
+            let mut start = pointed(Board::TWO, 2);
             start.processor.registers[0] = command;
             let held = start.processor.registers[usize::from(register)];
 
@@ -220,8 +224,8 @@ fn after_11_the_register_access_has_happened_and_nothing_else() {
 
 /// A board whose page can be drawn, in 40 columns or in 80, with a ROM in which slice s of G0 is
 /// 10 + s for character 0 and 20 + s for character 1, and 0 for every other.
-fn shown(blocks: u8, ror: u8, tgs: u8) -> Bench {
-    let mut bench = Bench::power_up_board(blocks);
+fn shown(board: Board, ror: u8, tgs: u8) -> Bench {
+    let mut bench = Bench::power_up_board(board);
     bench.indirect(7, ror);
     bench.indirect(1, tgs);
     bench.fit_picture(0xEE);
@@ -239,7 +243,7 @@ fn pixels<const N: usize>(bits: u8, one: u8, zero: u8) -> [u8; N] {
 
 #[test]
 fn a_page_at_0_of_2_blocks_is_plain_text_in_80_columns() {
-    let mut bench = shown(2, 8, 0xC0);
+    let mut bench = shown(Board::TWO, 8, 0xC0);
     bench.indirect(4, 0x35);
     bench.indirect(2, 0x02);
     for (x, z, value) in [(0, 0, 1), (0, 1, 0), (39, 1, 1), (39, 0, 0x81)] {
@@ -264,7 +268,7 @@ fn a_page_at_0_of_2_blocks_is_plain_text_in_80_columns() {
 /// The third block of a page at 2 is 0: A alone is fitted, and C and B are 0.
 #[test]
 fn a_page_at_2_of_2_blocks_has_its_third_block_at_0() {
-    let mut bench = shown(2, 0x28, 0);
+    let mut bench = shown(Board::TWO, 0x28, 0);
     bench.indirect(3, 0x40);
     bench.store_byte(Pointer { x: 5, y: 8, z: 0 }, 0x61);
     assert_eq!(bench.draw().value, 25);
@@ -291,7 +295,7 @@ fn a_page_at_2_of_2_blocks_has_its_third_block_at_0() {
 
 #[test]
 fn a_page_that_is_not_fitted_shows_character_0_in_black() {
-    let mut bench = shown(8, 0xE8, 0);
+    let mut bench = shown(Board::EIGHT, 0xE8, 0);
     bench.memory.fill(0xFF);
     bench.rom.fill(0xFF);
     assert_eq!(bench.draw().value, 25);
@@ -313,10 +317,11 @@ fn slices_that_are_not_fitted_are_0() {
         (0x80, 0xC0, 2),
         (0x80, 0xF8, 2),
     ] {
-        let mut bench = shown(8, 8, 0);
+        let mut bench = shown(Board::EIGHT, 8, 0);
         bench.memory[3 * 1_024..].fill(0xFF);
         bench.indirect(4, dor);
         let cell = Cell {
+            part: Part::Ef9345,
             c: 0x4B,
             b,
             a: 0x74,
@@ -337,7 +342,7 @@ fn slices_that_are_not_fitted_are_0() {
 /// The palette is A: where that is not fitted it has no colour, and every rank is white.
 #[test]
 fn a_palette_that_is_not_fitted_is_white() {
-    let mut bench = shown(2, 8, 0);
+    let mut bench = shown(Board::TWO, 8, 0);
     bench.store_byte(Pointer { x: 0, y: 8, z: 0 }, 0x4B);
     bench.store_byte(Pointer { x: 0, y: 8, z: 1 }, 0xC0);
     bench.draw();
@@ -348,7 +353,7 @@ fn a_palette_that_is_not_fitted_is_white() {
 /// Rows 1 and 2 have the same C and B, and an A that is not fitted is the same in both.
 #[test]
 fn the_same_three_bytes_count_a_byte_that_is_not_fitted_as_0() {
-    let mut bench = shown(2, 8, 0);
+    let mut bench = shown(Board::TWO, 8, 0);
     for y in [8, 9, 10] {
         bench.store_byte(Pointer { x: 3, y, z: 0 }, 0x41);
         bench.store_byte(Pointer { x: 3, y, z: 1 }, 0x02);
@@ -361,7 +366,7 @@ fn the_same_three_bytes_count_a_byte_that_is_not_fitted_as_0() {
 /// The 16 block board whose further blocks are all 0.
 fn with_all_blocks(bench: &Bench) -> Bench {
     let mut full = bench.clone();
-    full.processor.blocks = 16;
+    full.processor.board = Board::SIXTEEN;
     full.memory.resize(16_384, 0);
     full
 }
@@ -369,13 +374,13 @@ fn with_all_blocks(bench: &Bench) -> Bench {
 #[test]
 fn a_board_shows_what_the_full_one_shows_with_0_in_its_further_blocks() {
     let mut compared = 0;
-    for (blocks, seed) in [2, 8]
+    for (board, seed) in [Board::TWO, Board::EIGHT]
         .into_iter()
-        .flat_map(|blocks| (0..12).map(move |seed| (blocks, seed)))
+        .flat_map(|board| (0..12).map(move |seed| (board, seed)))
     {
         let mut sequence = Sequence::new(seed);
-        let mut bench = Bench::power_up_board(blocks);
-        bench.memory = sequence.memory(bench.processor.blocks);
+        let mut bench = Bench::power_up_board(board);
+        bench.memory = sequence.memory(board.blocks);
         bench.rom = Random::new(seed).bytes(6_400);
         for _ in 0..600 {
             let operation = sequence.operation(&bench.processor, &bench.memory);

@@ -7,6 +7,7 @@ use second::cell::Cell;
 use second::colour::{colour_of_rank, Colour};
 use second::page::screen_y;
 use second::pointer::{Pointer, Which};
+use second::Part;
 
 #[test]
 fn cases_1_to_5_places() {
@@ -37,7 +38,7 @@ fn cases_1_to_5_are_the_bytes_that_a_store_changes() {
 #[test]
 fn case_6_main_pointer() {
     let registers = [0, 0, 0, 0, 0, 0, 0xA8, 0xA6];
-    let pointer = Pointer::of(&registers, Which::Main);
+    let pointer = Pointer::of(Part::Ef9345, &registers, Which::Main);
     assert_eq!((pointer.x, pointer.y, pointer.z), (38, 8, 13));
     assert_eq!(pointer.place(), 13_382);
 
@@ -62,6 +63,7 @@ fn case_8_bichrome_line() {
     bench.indirect(4, 0x03);
     bench.store_slices(0x4B, 3, [0x52; 10]);
     let cell = Cell {
+        part: Part::Ef9345,
         c: 0x4B,
         b: 0x80,
         a: 0x70,
@@ -76,6 +78,7 @@ fn case_9_quadrichrome_line() {
     let mut bench = Bench::drawable();
     bench.store_slices(0x4B, 3, [0xE4; 10]);
     let cell = Cell {
+        part: Part::Ef9345,
         c: 0x4B,
         b: 0xD8,
         a: 0x5A,

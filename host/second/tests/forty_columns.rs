@@ -1,11 +1,17 @@
-//! The application note's 40 column program, run from zero memory.
+//! The application note's 40 column program, run from zero memory: on the EF9345, for which it was
+//! written, and on the TS9347.
 
 use second::bench::Bench;
 use second::forty_columns::program;
+use second::Board;
 
 /// Runs the writes from zero memory. The note tests busy before most of them; here before each.
 fn run() -> Bench {
-    let mut bench = Bench::power_up();
+    run_on(Board::SIXTEEN)
+}
+
+fn run_on(board: Board) -> Bench {
+    let mut bench = Bench::power_up_board(board);
     let mut before = 0x00;
     for (address, value) in program() {
         let status = bench.read(0x20);
@@ -104,7 +110,16 @@ const LOGO: [&str; 20] = [
 
 #[test]
 fn its_picture_shows_the_logo() {
-    let mut bench = run();
+    assert_logo(run());
+}
+
+/// Its pointers are in blocks 0 to 3, which both parts name alike, and the set of the logo is G'0 of both.
+#[test]
+fn its_picture_shows_the_logo_on_the_ts9347() {
+    assert_logo(run_on(Board::TS9347));
+}
+
+fn assert_logo(mut bench: Bench) {
     let answer = bench.draw();
     assert_eq!((answer.number, answer.value), (0, 25));
     for (line, expected) in LOGO.into_iter().enumerate() {
@@ -144,6 +159,20 @@ fn its_picture_shows_the_quadrichrome_character() {
             };
             assert_eq!(pixels[2 * pair..2 * pair + 2], [colour; 2], "line {line}");
         }
+    }
+}
+
+/// The slices of the same character from the left: B is D8, which is set Q3, and A is D2, which is
+/// negative: magenta where the slice is 0, and green where it is 1.
+const CHARACTER_OF_Q3: [usize; 10] = [0x9C, 0x5A, 0xA3, 0x6A, 0xA9, 0xBE, 0x92, 0xEB, 0x29, 0x86];
+
+#[test]
+fn its_picture_shows_the_same_character_in_two_colours_on_the_ts9347() {
+    let mut bench = run_on(Board::TS9347);
+    bench.draw();
+    for (line, slice) in CHARACTER_OF_Q3.into_iter().enumerate() {
+        let expected = [0, 1, 2, 3, 4, 5, 6, 7].map(|bit| [5, 2][slice >> bit & 1]);
+        assert_eq!(bench.pixels(13, 20, line), expected, "line {line}");
     }
 }
 

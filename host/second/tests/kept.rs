@@ -1,5 +1,5 @@
 //! The kept picture equals the fresh one after every accepted draw of random sequences, in both modes
-//! and from one mode to the other, on each of the three boards.
+//! and from one mode to the other, on each of the four boards.
 
 mod expected;
 
@@ -11,7 +11,8 @@ use second::page::Page;
 use second::random::Random;
 use second::rules::PageRules;
 use second::sequence::Sequence;
-use second::Mode;
+use second::set::Set;
+use second::{Board, Mode};
 
 /// What the sequences met in one mode, so that a tame generator is seen.
 #[derive(Debug, Default)]
@@ -23,7 +24,8 @@ struct Drawn {
     /// Draws that were lent a picture of this length for one of the other.
     from_other_mode: usize,
     phases: [usize; 2],
-    first_blocks: [usize; 8],
+    /// By half their number, since they are even.
+    first_blocks: [usize; 16],
     origins: [usize; 32],
 }
 
@@ -34,6 +36,11 @@ struct Met {
     refused: usize,
     /// Cells of 40 columns.
     quadrichrome: usize,
+    /// Of the TS9347: its sets GOE and Q.
+    goe: usize,
+    q: usize,
+    /// Lower halves of the sets Q.
+    lower_q: usize,
     user: usize,
     flashing: usize,
     lower: usize,
@@ -55,11 +62,11 @@ impl Met {
     }
 }
 
-fn random_bench(sequence: &mut Sequence, seed: u64, blocks: u8) -> Bench {
+fn random_bench(sequence: &mut Sequence, seed: u64, board: Board) -> Bench {
     let mut random = Random::new(seed ^ 0xABCD);
-    let mut bench = Bench::power_up_board(blocks);
-    bench.memory = sequence.memory(bench.processor.blocks);
-    bench.rom = random.bytes(6_400);
+    let mut bench = Bench::power_up_board(board);
+    bench.memory = sequence.memory(board.blocks);
+    bench.rom = random.bytes(board.part.rom());
     bench.picture = random.bytes(40_000);
     bench
 }
@@ -100,7 +107,7 @@ fn look(met: &mut Met, bench: &Bench) {
     }
     let drawn = met.drawn(page.mode);
     drawn.phases[usize::from(processor.phase)] += 1;
-    drawn.first_blocks[usize::from(processor.ror / 32)] += 1;
+    drawn.first_blocks[processor.first_block() / 2] += 1;
     drawn.origins[usize::from(processor.ror % 32)] += 1;
 }
 
@@ -108,6 +115,10 @@ fn look_at_cells(met: &mut Met, page: &Page, row: usize, pat: u8) {
     for column in 0..40 {
         let cell = page.cell(row, column);
         met.quadrichrome += usize::from(cell.is_quadrichrome());
+        let is_q = cell.set() == Some(Set::Q);
+        met.goe += usize::from(cell.set() == Some(Set::Goe));
+        met.q += usize::from(is_q);
+        met.lower_q += usize::from(is_q && shows_lower(page, row, column));
         met.user += usize::from(cell.b >> 6 == 2);
         met.flashing += usize::from(cell.is_flashing() && pat >= 0x40);
         met.lower += usize::from(shows_lower(page, row, column));
@@ -162,10 +173,10 @@ fn draw(met: &mut Met, random: &mut Random, bench: &mut Bench) {
     }
 }
 
-fn run(met: &mut Met, seed: u64, operations: usize, blocks: u8) {
+fn run(met: &mut Met, seed: u64, operations: usize, board: Board) {
     let mut random = Random::new(!seed);
     let mut sequence = Sequence::new(seed);
-    let mut bench = random_bench(&mut sequence, seed, blocks);
+    let mut bench = random_bench(&mut sequence, seed, board);
     for _ in 0..operations {
         let operation = sequence.operation(&bench.processor, &bench.memory);
         if operation == Operation::Draw {
@@ -184,7 +195,7 @@ fn run(met: &mut Met, seed: u64, operations: usize, blocks: u8) {
 fn kept_equals_fresh() {
     let mut met = Met::default();
     for seed in 0..80 {
-        run(&mut met, seed, 1_000, 16);
+        run(&mut met, seed, 1_000, Board::SIXTEEN);
     }
     println!("{met:?}");
     for drawn in [&met.forty, &met.eighty] {
@@ -193,7 +204,7 @@ fn kept_equals_fresh() {
         assert!(drawn.lent > 100, "{drawn:?}");
         assert!(drawn.from_other_mode > 100, "{drawn:?}");
         assert!(drawn.phases.iter().all(|times| *times > 100), "{drawn:?}");
-        let blocks = drawn.first_blocks;
+        let blocks = &drawn.first_blocks[..8];
         assert!(blocks.iter().all(|times| *times > 20), "{drawn:?}");
         let origins = &drawn.origins[8..];
         assert!(origins.iter().all(|times| *times > 0), "{drawn:?}");
@@ -218,12 +229,12 @@ fn kept_equals_fresh() {
 #[test]
 fn kept_equals_fresh_on_the_smaller_boards() {
     // The first so many pages are those of which a block is fitted.
-    for (blocks, fitted) in [(2, 2), (8, 4)] {
+    for (board, fitted) in [(Board::TWO, 2), (Board::EIGHT, 4)] {
         let mut met = Met::default();
         for seed in 200..220 {
-            run(&mut met, seed, 1_000, blocks);
+            run(&mut met, seed, 1_000, board);
         }
-        println!("{blocks} blocks: {met:?}");
+        println!("{board:?}: {met:?}");
         for drawn in [&met.forty, &met.eighty] {
             assert!(drawn.accepted > 300, "{drawn:?}");
             assert!(drawn.partial > 100, "{drawn:?}");
@@ -237,6 +248,36 @@ fn kept_equals_fresh_on_the_smaller_boards() {
         }
         assert!(met.numbers[11] > 300, "{:?}", met.numbers);
     }
+}
+
+#[test]
+fn kept_equals_fresh_on_the_ts9347() {
+    let mut met = Met::default();
+    for seed in 300..380 {
+        run(&mut met, seed, 500, Board::TS9347);
+    }
+    println!("{met:?}");
+    let drawn = &met.forty;
+    assert!(drawn.accepted > 1_200, "{drawn:?}");
+    assert!(drawn.partial > 600, "{drawn:?}");
+    assert!(drawn.lent > 100, "{drawn:?}");
+    assert!(drawn.phases.iter().all(|times| *times > 100), "{drawn:?}");
+    let blocks = drawn.first_blocks;
+    assert!(blocks.iter().all(|times| *times > 20), "{drawn:?}");
+    let origins = &drawn.origins[8..];
+    assert!(origins.iter().all(|times| *times > 0), "{drawn:?}");
+    let cells = 1_000 * drawn.accepted;
+    for count in [met.user, met.goe, met.q, met.flashing] {
+        assert!(count > cells / 20, "{met:?}");
+    }
+    for halves in [met.lower, met.right, met.lower_q] {
+        assert!(halves > drawn.accepted / 4, "{met:?}");
+    }
+    assert_eq!((met.quadrichrome, met.eighty.accepted), (0, 0));
+    for number in [0, 2, 3, 4, 9] {
+        assert!(met.numbers[number] > 0, "number {number} was not met");
+    }
+    assert_eq!(met.numbers[11], 0);
 }
 
 /// What the marks of single operations showed in one mode.
@@ -254,30 +295,43 @@ struct Marked {
 
 #[test]
 fn operations_mark_the_rows_of_the_lists_and_no_other() {
-    for blocks in [2, 8, 16] {
-        let marked = marked_on(blocks);
-        println!("{blocks} blocks: {marked:?}");
+    for board in [Board::TWO, Board::EIGHT, Board::SIXTEEN] {
+        let marked = marked_on(board);
+        println!("{board:?}: {marked:?}");
         for marked in &marked {
             assert!(marked.stores > 300, "{marked:?}");
             assert!(marked.turns > 30, "{marked:?}");
             // Of 2 blocks only a page at 2 has a third that is fitted.
-            let least = if blocks == 2 { 2 } else { 11 };
+            let least = if board == Board::TWO { 2 } else { 11 };
             assert!(marked.partial_turns >= least, "{marked:?}");
             assert!(marked.mats > 5, "{marked:?}");
         }
         // In 80 columns most bytes that 40 would take as slices are on no list. Of 2 blocks a page
         // most often has both.
-        let (eighty, least) = (&marked[1], if blocks == 2 { 1 } else { 6 });
+        let (eighty, least) = (&marked[1], if board == Board::TWO { 1 } else { 6 });
         assert!(eighty.unseen >= least && eighty.mats > 20, "{eighty:?}");
     }
 }
 
+#[test]
+fn operations_on_the_ts9347_mark_the_rows_of_the_lists_and_no_other() {
+    let [forty, eighty] = marked_on(Board::TS9347);
+    println!("{forty:?}");
+    assert!(forty.stores > 600, "{forty:?}");
+    assert!(forty.unseen > 10, "{forty:?}");
+    assert!(forty.turns > 60, "{forty:?}");
+    assert!(forty.partial_turns > 10, "{forty:?}");
+    // None of them marks: there is no page of 80 columns.
+    assert!(forty.mats > 10, "{forty:?}");
+    assert_eq!(eighty.stores, 0);
+}
+
 /// The operations of some sequences on a board, each of which must leave the marks of the lists.
-fn marked_on(blocks: u8) -> [Marked; 2] {
+fn marked_on(board: Board) -> [Marked; 2] {
     let mut marked = [Marked::default(), Marked::default()];
     for seed in 100..116 {
         let mut sequence = Sequence::new(seed);
-        let mut bench = random_bench(&mut sequence, seed, blocks);
+        let mut bench = random_bench(&mut sequence, seed, board);
         for _ in 0..1_000 {
             let operation = sequence.operation(&bench.processor, &bench.memory);
             let before = bench.clone();
@@ -318,7 +372,7 @@ fn count(marked: &mut Marked, before: &Bench, after: &Bench) {
 #[test]
 fn a_fresh_processor_with_the_same_registers_draws_the_same_picture() {
     let mut sequence = Sequence::new(77);
-    let mut bench = random_bench(&mut sequence, 77, 16);
+    let mut bench = random_bench(&mut sequence, 77, Board::SIXTEEN);
     let mut compared = [0; 2];
     while compared.iter().any(|times| *times < 40) {
         let operation = sequence.operation(&bench.processor, &bench.memory);

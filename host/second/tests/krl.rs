@@ -8,6 +8,7 @@ use second::address::place;
 use second::bench::Bench;
 use second::pointer::Pointer;
 use second::random::Random;
+use second::Part;
 
 /// The place of the attributes, with the block written out for each block of the pointer.
 fn attributes_place(pointer: Pointer) -> usize {
@@ -16,7 +17,7 @@ fn attributes_place(pointer: Pointer) -> usize {
 }
 
 fn point_at(bench: &mut Bench, pointer: Pointer) -> (u8, u8) {
-    let (down, across) = pointer.main_registers();
+    let (down, across) = pointer.main_registers(Part::Ef9345);
     bench.write(0x26, down);
     bench.write(0x27, across);
     (down, across)
@@ -54,7 +55,7 @@ fn a_write_stores_c_and_one_nibble_and_nothing_else() {
         bench.write(0x22, 0x77);
         write_code(&mut bench, pointer, c, r3);
         assert_eq!(bench.memory, expected);
-        let (down, across) = pointer.main_registers();
+        let (down, across) = pointer.main_registers(Part::Ef9345);
         let registers = [0x50, c, 0x77, r3, 0, 0, down, across];
         assert_eq!(bench.processor.registers, registers);
     }

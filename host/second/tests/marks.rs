@@ -9,13 +9,14 @@ use second::page::screen_y;
 use second::pointer::Pointer;
 use second::random::Random;
 use second::sequence::Sequence;
-use second::{Mode, Processor};
+use second::{Mode, Part, Processor};
 
 /// Stores a cell in a row and column of the screen, in block 0 and by the present origin.
 fn show(bench: &mut Bench, row: usize, column: usize, c: u8, b: u8, a: u8) {
     let y = screen_y(bench.processor.ror, row);
     let pointer = Pointer { x: column, y, z: 0 };
-    assert_eq!(bench.store_cell(pointer, Cell { c, b, a }).number, 0);
+    let part = Part::Ef9345;
+    assert_eq!(bench.store_cell(pointer, Cell { part, c, b, a }).number, 0);
 }
 
 fn marked(bench: &Bench) -> Vec<usize> {

@@ -5,12 +5,14 @@ mod flash;
 use second::bench::Bench;
 use second::cell::Cell;
 use second::pointer::Pointer;
+use second::Part;
 
 /// Stores a cell in a row and column of the screen; the origin is 8 and the first block 0.
 fn show(bench: &mut Bench, row: usize, column: usize, c: u8, b: u8, a: u8) {
     let y = if row == 0 { 0 } else { 7 + row };
     let pointer = Pointer { x: column, y, z: 0 };
-    assert_eq!(bench.store_cell(pointer, Cell { c, b, a }).number, 0);
+    let part = Part::Ef9345;
+    assert_eq!(bench.store_cell(pointer, Cell { part, c, b, a }).number, 0);
 }
 
 /// A drawable bench with G'0 in block 3 and G'10 and G'11 in blocks 6 and 7.
@@ -284,6 +286,7 @@ fn above_is_the_screen_and_not_the_memory() {
     put_in_rom(&mut bench, 1, 5, SLICES);
     // Y = 19 and Y = 20 are neighbours in memory; with origin 20 they are rows 24 and 1.
     let cell = Cell {
+        part: Part::Ef9345,
         c: 5,
         b: 0x22,
         a: 0x10,

@@ -2,7 +2,7 @@
 
 use second::bench::Bench;
 use second::processor::{Answer, Processor};
-use second::Mode;
+use second::{Board, Mode};
 
 /// A state with a different value in each field, so that a change of any field is seen.
 fn state(command: u8) -> Processor {
@@ -21,7 +21,7 @@ fn state(command: u8) -> Processor {
         lx_auxiliary: false,
         phase: 1,
         marks,
-        blocks: 16,
+        board: Board::SIXTEEN,
     }
 }
 

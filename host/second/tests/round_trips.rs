@@ -7,6 +7,7 @@ use legal::{legal_pointer, random_bench};
 use second::bench::Bench;
 use second::pointer::Pointer;
 use second::random::Random;
+use second::Part;
 
 /// The place of byte 0, 1 or 2 of a code, worked out here by the district's four blocks.
 fn code_place(pointer: Pointer, byte: usize) -> usize {
@@ -23,7 +24,7 @@ fn krf_stores_three_bytes_and_reads_them_back() {
     for _ in 0..4_000 {
         let pointer = legal_pointer(&mut random);
         let code = [random.byte(), random.byte(), random.byte()];
-        let (down, across) = pointer.main_registers();
+        let (down, across) = pointer.main_registers(Part::Ef9345);
         let mut expected = bench.memory.clone();
         for byte in 0..3 {
             expected[code_place(pointer, byte)] = code[byte];
@@ -63,7 +64,7 @@ fn krf_takes_the_third_byte_from_its_own_district() {
         for block in 0..16 {
             bench.memory[1024 * block] = block as u8;
         }
-        let (down, across) = Pointer { x: 0, y: 0, z }.main_registers();
+        let (down, across) = Pointer { x: 0, y: 0, z }.main_registers(Part::Ef9345);
         bench.write(0x26, down);
         bench.write(0x27, across);
         bench.write(0x28, 0x08);
@@ -97,14 +98,14 @@ fn a_row_by_krf_with_increment() {
 fn oct_round_trip(bench: &mut Bench, pointer: Pointer, auxiliary: bool, value: u8) {
     let added = if auxiliary { 4 } else { 0 };
     if auxiliary {
-        let (down, across, z3) = pointer.auxiliary_registers();
+        let (down, across, z3) = pointer.auxiliary_registers(Part::Ef9345);
         bench.write(0x24, down);
         bench.write(0x25, across);
-        bench.write(0x26, if z3 { 0x41 } else { 0x01 });
+        bench.write(0x26, if z3 == Some(true) { 0x41 } else { 0x01 });
         // X and Y of the main pointer are not legal here and do not matter.
         bench.write(0x27, 0x3F);
     } else {
-        let (down, across) = pointer.main_registers();
+        let (down, across) = pointer.main_registers(Part::Ef9345);
         bench.write(0x26, down);
         bench.write(0x27, across);
         bench.write(0x24, 0x01);

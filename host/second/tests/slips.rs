@@ -12,7 +12,7 @@ use second::random::Random;
 use second::rules::PageRules;
 use second::rules::Rules;
 use second::sequence::Sequence;
-use second::Slip;
+use second::{Board, Part, Slip};
 
 const SEEDS: u64 = 40;
 const OPERATIONS: usize = 4_000;
@@ -52,11 +52,12 @@ fn wrongly_marked(step: &Step) -> bool {
 fn wrongly_packed(step: &Step) -> bool {
     let registers = &step.after.processor.registers;
     let executed = matches!(step.operation, Operation::Write { address: 0x29, .. });
-    if !executed || step.answer.number != 0 || ![0x50, 0x51].contains(&registers[0]) {
+    let is_krl = [0x50, 0x51].contains(&registers[0]);
+    if !executed || step.answer.number != 0 || !is_krl {
         return false;
     }
     // The pointer from before the increment; the write was of R1.
-    let pointer = Pointer::of(&step.before.processor.registers, Which::Main);
+    let pointer = Pointer::of(Part::Ef9345, &step.before.processor.registers, Which::Main);
     let twelve_bits = |bench: &Bench, odd: bool| {
         let even = pointer.z - pointer.z % 2;
         let c = bench.memory[place(pointer.x, pointer.y, even + usize::from(odd))];
@@ -82,12 +83,32 @@ fn wrongly_packed(step: &Step) -> bool {
         || twelve_bits(step.after, !odd) != twelve_bits(step.before, !odd)
 }
 
+/// Another byte than R1, on the TS9347, at the place that the pointer of OCT names: "R7 bits 5..0 are X,
+/// bit 7 is Z0 and bit 6 is Z1", and "bits 7..5 beside Y being Z4..Z2", in R4 and R5 as in R6 and R7.
+fn wrongly_placed(step: &Step) -> bool {
+    let is_later = step.after.processor.board.part == Part::Ts9347;
+    let executed = matches!(step.operation, Operation::Write { address: 0x29, .. });
+    if !is_later || !executed || step.answer.number != 0 {
+        return false;
+    }
+    // The registers from before the increment; the write was of R1.
+    let [command, _, _, _, r4, r5, r6, r7] = step.before.processor.registers;
+    let (down, across) = match command {
+        0x30 | 0x31 => (r6, r7),
+        0x34 | 0x35 => (r4, r5),
+        _ => return false,
+    };
+    let z = 4 * usize::from(down / 32) + [0, 2, 1, 3][usize::from(across / 64)];
+    let at = place(usize::from(across % 64), usize::from(down % 32), z);
+    step.after.memory[at] != step.after.processor.registers[1]
+}
+
 /// The number of operations until something wrong is seen, if it ever is.
-fn caught<R: Rules>(rules: &R, wrong: Wrong, blocks: u8, seed: u64) -> Option<usize> {
+fn caught<R: Rules>(rules: &R, wrong: Wrong, board: Board, seed: u64) -> Option<usize> {
     let mut sequence = Sequence::new(seed);
-    let mut bench = Bench::power_up_board(blocks);
-    bench.memory = sequence.memory(bench.processor.blocks);
-    bench.rom = Random::new(seed).bytes(6_400);
+    let mut bench = Bench::power_up_board(board);
+    bench.memory = sequence.memory(board.blocks);
+    bench.rom = Random::new(seed).bytes(board.part.rom());
     for count in 1..=OPERATIONS {
         let operation = sequence.operation(&bench.processor, &bench.memory);
         let before = bench.clone();
@@ -105,15 +126,15 @@ fn caught<R: Rules>(rules: &R, wrong: Wrong, blocks: u8, seed: u64) -> Option<us
     None
 }
 
-fn is_caught_on(blocks: u8, slip: Slip, wrong: Wrong) {
-    let caught = |seed| caught(&slip, wrong, blocks, seed).map(|count| (seed, count));
+fn is_caught_on(board: Board, slip: Slip, wrong: Wrong) {
+    let caught = |seed| caught(&slip, wrong, board, seed).map(|count| (seed, count));
     let found = (0..SEEDS).find_map(caught);
     let (seed, count) = found.unwrap_or_else(|| panic!("{slip:?} was not caught"));
-    println!("{slip:?}: {blocks} blocks, seed {seed}, operation {count}");
+    println!("{slip:?}: {board:?}, seed {seed}, operation {count}");
 }
 
 fn is_caught(slip: Slip, wrong: Wrong) {
-    is_caught_on(16, slip, wrong);
+    is_caught_on(Board::SIXTEEN, slip, wrong);
 }
 
 #[test]
@@ -193,14 +214,50 @@ fn a_nibble_from_the_other_half_is_caught() {
 
 #[test]
 fn mirrors_of_what_is_not_fitted_are_caught() {
-    for blocks in [2, 8] {
-        is_caught_on(blocks, Slip::NotFittedMirrored, wrongly_marked);
+    for board in [Board::TWO, Board::EIGHT] {
+        is_caught_on(board, Slip::NotFittedMirrored, wrongly_marked);
     }
 }
 
 #[test]
 fn a_page_forgotten_since_a_block_of_it_is_not_fitted_is_caught() {
-    is_caught_on(2, Slip::PartlyFittedForgotten, stale);
+    is_caught_on(Board::TWO, Slip::PartlyFittedForgotten, stale);
+}
+
+#[test]
+fn a_forgotten_z4_is_caught() {
+    is_caught_on(Board::TS9347, Slip::Z4Forgotten, wrongly_placed);
+}
+
+#[test]
+fn an_auxiliary_z3_in_r6_is_caught() {
+    is_caught_on(Board::TS9347, Slip::AuxiliaryZ3InR6, wrongly_placed);
+}
+
+#[test]
+fn quadrichrome_cells_of_the_sets_q_are_caught() {
+    is_caught_on(Board::TS9347, Slip::QuadrichromeQ, stale);
+}
+
+#[test]
+fn double_width_cells_of_the_sets_q_are_caught() {
+    is_caught_on(Board::TS9347, Slip::DoubleWidthQ, stale);
+}
+
+#[test]
+fn alphanumeric_cells_of_goe_are_caught() {
+    is_caught_on(Board::TS9347, Slip::AlphanumericGoe, stale);
+}
+
+#[test]
+fn a_page_without_dor_7_is_caught() {
+    is_caught_on(Board::TS9347, Slip::Dor7Forgotten, stale);
+    is_caught_on(Board::TS9347, Slip::Dor7Forgotten, wrongly_marked);
+}
+
+#[test]
+fn a_rom_in_the_order_of_the_other_part_is_caught() {
+    is_caught_on(Board::TS9347, Slip::RomInOldOrder, stale);
 }
 
 #[test]
@@ -213,11 +270,11 @@ fn the_planted_slips_differ() {
 
 #[test]
 fn the_right_rules_are_not_caught() {
-    let wrong: Wrong = |step| stale(step) || wrongly_packed(step);
-    for blocks in [2, 8, 16] {
+    let wrong: Wrong = |step| stale(step) || wrongly_packed(step) || wrongly_placed(step);
+    for board in Board::ALL {
         for seed in 0..4 {
-            assert_eq!(caught(&PageRules, wrong, blocks, seed), None);
-            assert_eq!(caught(&Slip::None, wrong, blocks, seed), None);
+            assert_eq!(caught(&PageRules, wrong, board, seed), None);
+            assert_eq!(caught(&Slip::None, wrong, board, seed), None);
         }
     }
     // That their marks are those of the lists is seen over more sequences where pictures are kept.

@@ -1,27 +1,27 @@
 //! What the operations met on each board.
 
-use second::BOARDS;
+use second::Board;
 
 use super::Met;
 use crate::trial::Step;
 
 #[derive(Default)]
 pub struct Boards {
-    met: [Met; BOARDS.len()],
+    met: [Met; Board::ALL.len()],
 }
 
 impl Boards {
     /// Counts an operation for the board that was there before it.
     pub fn look(&mut self, step: &Step) {
-        self.met[number_of(step.before.blocks)].look(step);
+        self.met[number_of(step.before.board)].look(step);
     }
 
-    pub fn on(&self, blocks: usize) -> &Met {
-        &self.met[number_of(blocks)]
+    pub fn on(&self, board: Board) -> &Met {
+        &self.met[number_of(board)]
     }
 }
 
-fn number_of(blocks: usize) -> usize {
-    let number = BOARDS.iter().position(|board| *board == blocks);
-    number.unwrap_or_else(|| panic!("there is no board of {blocks} blocks"))
+fn number_of(board: Board) -> usize {
+    let number = Board::ALL.iter().position(|other| *other == board);
+    number.unwrap_or_else(|| panic!("there is no {board:?}"))
 }

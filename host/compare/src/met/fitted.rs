@@ -4,8 +4,7 @@
 use std::fmt;
 
 use second::address::code_block;
-use second::page::first_block;
-use second::{Operation, BLOCK, BOARDS};
+use second::{Board, Operation, Processor};
 
 use crate::trial::Step;
 
@@ -41,7 +40,7 @@ impl Fitted {
     pub fn look(&mut self, step: &Step) {
         self.look_at_command(step);
         let (before, report) = (&step.before, &step.report);
-        let page = kind_of_page(before.ror, before.blocks);
+        let page = kind_of_page(before);
         match step.asked.operation {
             Operation::Draw if report.number == 0 && report.value > 0 => {
                 let is_eighty = usize::from(before.tgs >= 0xC0);
@@ -56,8 +55,8 @@ impl Fitted {
             }
             _ => {}
         }
-        let lengths = step.asked.lengths(before.mode(), before.blocks);
-        let mut boards = BOARDS.iter().map(|blocks| BLOCK * blocks);
+        let lengths = step.asked.lengths(before.mode(), before.board);
+        let mut boards = Board::ALL.iter().map(|board| board.memory());
         let is_other = boards.any(|length| length == lengths.memory);
         self.other_boards += usize::from(report.number == 1 && is_other);
     }
@@ -81,12 +80,12 @@ impl Fitted {
         }
     }
 
-    /// Fails where a form was executed or refused by 11 fewer times than `least`, and a board of so many
-    /// blocks does it at all.
-    pub fn assert_forms(&self, blocks: usize, least: usize) {
+    /// Fails where a form was executed or refused by 11 fewer times than `least`, and a board that is not
+    /// full does it at all.
+    pub fn assert_forms(&self, board: Board, least: usize) {
         for ((name, _), forms) in FORMS.iter().zip(self.forms) {
             for [executed, refused] in forms {
-                let never = blocks == 2 && ["KRF", "KRL"].contains(name);
+                let never = board == Board::TWO && ["KRF", "KRL"].contains(name);
                 assert!((executed >= least) != never, "{self}");
                 assert!(refused >= least, "{self}");
             }
@@ -113,10 +112,11 @@ impl Fitted {
     }
 }
 
-fn kind_of_page(ror: u8, blocks: usize) -> usize {
-    let fitted = [0, 1, 2].map(|byte| code_block(first_block(ror), byte) < blocks);
+fn kind_of_page(processor: &Processor) -> usize {
+    let (first, board) = (processor.first_block(), processor.board);
+    let fitted = [0, 1, 2].map(|byte| code_block(first, byte) < board.blocks);
     let kind = PAGES.iter().position(|(_, page)| *page == fitted);
-    kind.unwrap_or_else(|| panic!("ROR {ror:02X}: {fitted:?} of {blocks} blocks"))
+    kind.unwrap_or_else(|| panic!("page at {first}: {fitted:?} of {board:?}"))
 }
 
 impl fmt::Display for Fitted {

@@ -2,13 +2,13 @@
 
 use std::fmt;
 
-use second::{Operation, BLOCKS};
+use second::{Board, Operation};
 
 use super::krl::Krl;
 use crate::trial::Step;
 
 /// How often each number was answered to each kind of operation.
-type Numbers = [[usize; 13]; KINDS.len()];
+type Numbers = [[usize; 15]; KINDS.len()];
 
 const KINDS: [&str; 5] = ["write", "read", "phase change", "draw", "power-up"];
 
@@ -21,16 +21,16 @@ const SMALLER: Possible = [
     &[0, 1, 2, 3, 4, 11],
     &[0, 1, 9],
     &[0, 1, 5, 6, 7, 8],
-    &[0, 12],
+    &[0, 12, 14],
 ];
 
-/// On that of 16 blocks, where every byte is fitted.
+/// On those of 16 blocks and of the TS9347, where every byte is fitted.
 const FULL: Possible = [
     &[0, 1, 2, 3, 4],
     &[0, 1, 2, 3, 4],
     &[0, 1, 9],
     &[0, 1, 5, 6, 7, 8],
-    &[0, 12],
+    &[0, 12, 14],
 ];
 
 /// Where TGS names no mode a draw gets 7 before its picture is looked at.
@@ -106,13 +106,13 @@ impl InMode {
 
     /// Fails where a number that a kind of operation can get on a board was met fewer times than
     /// `least`, or another one at all.
-    pub fn assert_every_number(&self, blocks: usize, least: usize) {
-        self.assert_numbers(of_board(blocks), least);
+    pub fn assert_every_number(&self, board: Board, least: usize) {
+        self.assert_numbers(of_board(board), least);
     }
 
     /// The same where TGS named no mode.
-    pub fn assert_every_number_in_no_mode(&self, blocks: usize, least: usize) {
-        let [write, read, turn, _, power_up] = of_board(blocks);
+    pub fn assert_every_number_in_no_mode(&self, board: Board, least: usize) {
+        let [write, read, turn, _, power_up] = of_board(board);
         self.assert_numbers([write, read, turn, DRAW_IN_NO_MODE, power_up], least);
     }
 
@@ -130,18 +130,18 @@ impl InMode {
     }
 }
 
-fn of_board(blocks: usize) -> Possible {
-    if blocks < BLOCKS {
-        SMALLER
-    } else {
+fn of_board(board: Board) -> Possible {
+    if board.is_full() {
         FULL
+    } else {
+        SMALLER
     }
 }
 
 /// Whether a draw is refused for a picture that would be right in the other mode.
 fn has_other_length(step: &Step) -> bool {
     let mode = step.before.mode();
-    let length = step.asked.lengths(mode, step.before.blocks).picture;
+    let length = step.asked.lengths(mode, step.before.board).picture;
     let other = mode.map(|mode| mode.other().picture());
     step.report.number == 6 && Some(length) == other
 }
@@ -159,7 +159,7 @@ fn kind_of(operation: Operation) -> usize {
 impl fmt::Display for InMode {
     fn fmt(&self, to: &mut fmt::Formatter) -> fmt::Result {
         for (name, numbers) in KINDS.iter().zip(self.numbers) {
-            writeln!(to, "{name}, numbers 0 to 12: {numbers:?} times")?;
+            writeln!(to, "{name}, numbers 0 to 14: {numbers:?} times")?;
         }
         writeln!(to, "left in phase 0, 1: {:?} times", self.phases)?;
         writeln!(to, "accepted draws of 0 to 25 rows: {:?}", self.rows)?;

@@ -2,7 +2,7 @@
 
 use std::fmt;
 
-use second::Operation;
+use second::{Board, Operation};
 
 use crate::trial::Step;
 
@@ -10,12 +10,13 @@ use crate::trial::Step;
 const FORMS: [u8; 4] = [0x50, 0x51, 0x58, 0x59];
 
 /// Where it was executed.
-const KINDS: [&str; 5] = [
+const KINDS: [&str; 6] = [
     "even",
     "odd",
     "odd at X 39",
     "refused by 4",
     "refused by 11",
+    "refused by 3",
 ];
 
 /// How often each form was executed at each kind of position.
@@ -33,13 +34,14 @@ impl Krl {
     }
 
     /// Fails where a form was met at a kind of position that a board has fewer times than `least`, or at
-    /// another one at all: 2 blocks have no position of which both bytes are fitted, and 16 have no
-    /// other.
-    pub fn assert_varied(&self, blocks: usize, least: usize) {
-        let has = match blocks {
-            2 => [false, false, false, true, true],
-            8 => [true; 5],
-            _ => [true, true, true, true, false],
+    /// another one at all: 2 blocks have no position of which both bytes are fitted, 16 have no other, and
+    /// the TS9347 has no KRL.
+    pub fn assert_varied(&self, board: Board, least: usize) {
+        let has = match board.blocks {
+            2 => [false, false, false, true, true, false],
+            8 => [true, true, true, true, true, false],
+            16 => [true, true, true, true, false, false],
+            _ => [false, false, false, false, false, true],
         };
         for counts in self.counts {
             for (count, has) in counts.into_iter().zip(has) {
@@ -49,13 +51,13 @@ impl Krl {
     }
 }
 
-/// Whether the step has executed the command of a byte, or was refused for its pointer or its block.
+/// Whether the step has executed the command of a byte, or was refused for it, its pointer or its block.
 fn executes(step: &Step, command: u8) -> bool {
     let address = match step.asked.operation {
         Operation::Write { address, .. } | Operation::Read { address } => address,
         _ => return false,
     };
-    let is_executed = address >= 0x28 && [0, 4, 11].contains(&step.report.number);
+    let is_executed = address >= 0x28 && [0, 3, 4, 11].contains(&step.report.number);
     is_executed && step.report.registers[0] == command
 }
 
@@ -71,6 +73,7 @@ fn kind(step: &Step) -> usize {
     match (step.report.number, r7 / 0x80, r7 % 0x40) {
         (4, _, _) => 3,
         (11, _, _) => 4,
+        (3, _, _) => 5,
         (_, 0, _) => 0,
         (_, _, 39) => 2,
         _ => 1,

@@ -4,8 +4,7 @@ use std::fmt;
 
 use second::address::code_block;
 use second::cell::{Cell, Source};
-use second::page::first_block;
-use second::{Mode, COLUMNS};
+use second::{Board, Mode, COLUMNS};
 
 use super::counts::Counts;
 use crate::page::Page;
@@ -58,7 +57,7 @@ impl Shown<'_> {
     fn has_slices(&self, fitted: bool) -> bool {
         match self.cell.source(self.page.dor) {
             Source::Rom(_) => false,
-            Source::Block(z) => (z < self.page.blocks) == fitted,
+            Source::Block(z) => (z < self.page.board.blocks) == fitted,
         }
     }
 }
@@ -80,8 +79,8 @@ impl SeenBoard {
     /// Counts the columns of a page's marked rows.
     pub fn look(&mut self, page: &Page) {
         let view = page.view();
-        let first = first_block(page.ror);
-        let fitted = [0, 1, 2].map(|byte| code_block(first, byte) < page.blocks);
+        let first = view.page.first;
+        let fitted = [0, 1, 2].map(|byte| code_block(first, byte) < page.board.blocks);
         for row in page.marked_rows() {
             for column in 0..COLUMNS {
                 let cell = view.page.cell(row, column);
@@ -94,8 +93,8 @@ impl SeenBoard {
     }
 
     /// Fails where a kind of column was seen fewer times than `least` that the pages of a mode on a board
-    /// of so many blocks show.
-    pub fn assert_varied(&self, mode: Mode, blocks: usize, least: usize) {
+    /// show.
+    pub fn assert_varied(&self, mode: Mode, board: Board, least: usize) {
         let of_two = [
             "the third byte not fitted",
             "the third byte alone fitted",
@@ -103,8 +102,8 @@ impl SeenBoard {
             "flashing, set not fitted",
             "double height, colours not fitted",
         ];
-        let mut but_for = match blocks {
-            2 => vec!["every byte fitted"],
+        let mut but_for = match board {
+            Board::TWO => vec!["every byte fitted"],
             _ => of_two.to_vec(),
         };
         if mode == Mode::Eighty {

@@ -3,7 +3,7 @@
 use std::fmt;
 
 use second::code::Code;
-use second::POSITIONS;
+use second::{Part, POSITIONS};
 
 use super::counts::Counts;
 use super::places::Places;
@@ -123,7 +123,7 @@ impl SeenEighty {
     /// a first block or a phase not at all.
     pub fn assert_varied(&self, least: usize) {
         self.cells.assert_at_least(least, &[]);
-        self.places.assert_every_one();
+        self.places.assert_every_one(Part::Ef9345);
         assert!(self.rarest().1 > 0, "{self}");
         let mut pages = self.colours.iter().flatten();
         assert!(pages.all(|pages| *pages > 0), "{self}");

@@ -1,28 +1,14 @@
-//! What pages of 40 columns showed.
+//! What pages of 40 columns of the EF9345 showed.
 
 use std::fmt;
 
-use second::address::{code_block, slice_address, Address};
-use second::cell::{Cell, Set, Source};
-use second::half::{shows_lower, shows_right};
-use second::page::first_block;
-use second::COLUMNS;
+use second::set::Set;
+use second::{Part, COLUMNS};
 
 use super::counts::Counts;
 use super::places::Places;
+use super::shown::Shown;
 use crate::page::Page;
-use crate::short::short_palette;
-
-/// A cell as a redraw shows it: in a marked row.
-struct Shown<'a> {
-    page: &'a Page,
-    cell: Cell,
-    row: usize,
-    lower: bool,
-    right: bool,
-    /// The number of colours of its palette, if it shows a rank that none of them has.
-    short: Option<usize>,
-}
 
 type Test = fn(&Shown) -> bool;
 
@@ -65,12 +51,10 @@ const TESTS: [(&str, Test); 30] = [
     ("right half", |shown| shown.right),
     ("lower right quarter", |shown| shown.lower && shown.right),
     ("lower half below a row that is not marked", |shown| {
-        shown.lower && !shown.page.marks[shown.row - 1]
+        shown.is_below_unmarked()
     }),
     ("underlined", |shown| shown.cell.is_underlined()),
-    ("concealed", |shown| {
-        shown.cell.is_concealed() && shown.page.pat / 0x08 % 2 == 1
-    }),
+    ("concealed", |shown| shown.is_concealed()),
     ("flashing, shown", |shown| {
         shown.flashes() && !shown.is_hidden()
     }),
@@ -80,42 +64,12 @@ const TESTS: [(&str, Test); 30] = [
     ("negative", |shown| {
         !shown.cell.is_quadrichrome() && shown.cell.negative() == 1
     }),
-    ("slices in a shown block", |shown| {
-        shown.block().is_some_and(|z| shown.is_shown_block(z))
-    }),
+    ("slices in a shown block", |shown| shown.has_shown_slices()),
     ("slices at no legal place", |shown| shown.has_no_slices()),
     ("no colour, slices at no legal place", |shown| {
         shown.has_no_slices() && shown.short == Some(0)
     }),
 ];
-
-impl Shown<'_> {
-    fn flashes(&self) -> bool {
-        self.cell.is_flashing() && self.page.pat / 0x40 % 2 == 1
-    }
-
-    fn is_hidden(&self) -> bool {
-        self.page.phase != self.cell.negative()
-    }
-
-    /// The block of private memory that holds the cell's slices, if one does.
-    fn block(&self) -> Option<usize> {
-        match self.cell.source(self.page.dor) {
-            Source::Rom(_) => None,
-            Source::Block(z) => Some(z),
-        }
-    }
-
-    fn has_no_slices(&self) -> bool {
-        let address = |z| slice_address(self.cell.c, 0, z, self.page.blocks);
-        self.block().is_some_and(|z| address(z) == Address::Illegal)
-    }
-
-    fn is_shown_block(&self, z: usize) -> bool {
-        let first = first_block(self.page.ror);
-        (0..3).any(|byte| code_block(first, byte) == z)
-    }
-}
 
 /// The counts over all pages.
 pub struct SeenForty {
@@ -138,24 +92,14 @@ impl SeenForty {
         self.places.look(page);
         for row in page.marked_rows() {
             for column in 0..COLUMNS {
-                self.look_at_cell(page, row, column);
+                self.look_at_cell(&Shown::of(page, row, column));
             }
         }
     }
 
-    fn look_at_cell(&mut self, page: &Page, row: usize, column: usize) {
-        let view = page.view();
-        let cell = view.page.cell(row, column);
-        let shown = Shown {
-            page,
-            cell,
-            row,
-            lower: shows_lower(&view.page, row, column),
-            right: shows_right(&view.page, row, column),
-            short: short_palette(&view, cell),
-        };
+    fn look_at_cell(&mut self, shown: &Shown) {
         for (at, (_, test)) in TESTS.iter().enumerate() {
-            self.cells.add(at, test(&shown));
+            self.cells.add(at, test(shown));
         }
     }
 
@@ -163,7 +107,7 @@ impl SeenForty {
     /// a phase not at all. `but_for` names the kinds that the pages cannot show.
     pub fn assert_varied(&self, least: usize, but_for: &[&str]) {
         self.cells.assert_at_least(least, but_for);
-        self.places.assert_every_one();
+        self.places.assert_every_one(Part::Ef9345);
     }
 }
 

@@ -2,12 +2,15 @@
 
 use std::fmt;
 
+use second::Part;
+
 use crate::page::Page;
 
 #[derive(Default)]
 pub struct Places {
     origins: [usize; 24],
-    first_blocks: [usize; 8],
+    /// By half their number, since they are even.
+    first_blocks: [usize; 16],
     phases: [usize; 2],
     rows: usize,
 }
@@ -15,14 +18,15 @@ pub struct Places {
 impl Places {
     pub fn look(&mut self, page: &Page) {
         self.origins[usize::from(page.ror % 32 - 8)] += 1;
-        self.first_blocks[usize::from(page.ror / 32)] += 1;
+        self.first_blocks[page.second().first_block() / 2] += 1;
         self.phases[usize::from(page.phase)] += 1;
         self.rows += page.marked_rows().count();
     }
 
-    /// Fails where an origin, a first block or a phase was not seen.
-    pub fn assert_every_one(&self) {
-        let places = self.origins.iter().chain(&self.first_blocks);
+    /// Fails where an origin, a first block that a part names or a phase was not seen.
+    pub fn assert_every_one(&self, part: Part) {
+        let named = &self.first_blocks[..part.named_blocks() / 2];
+        let places = self.origins.iter().chain(named);
         let mut pages = places.chain(&self.phases);
         assert!(pages.all(|count| *count > 0), "{self}");
     }

@@ -10,11 +10,13 @@ use compare::pair::Pair;
 use compare::report::Report;
 use compare::unplanned::unplanned;
 use second::random::Random;
-use second::{Mode, Operation};
+use second::{Board, Mode, Operation, Part};
 
 /// Where TGS and the board stand among the bytes of a processor.
 const TGS: usize = 9;
 const BOARD: usize = 44;
+/// The bytes that calls leave there: of 16 blocks, 2 and 8, and of the TS9347.
+const BOARDS: [u8; 4] = [0, 2, 8, 4];
 
 /// Any bytes; small ones, so that many pages can be drawn; or power-up's, but for a few. Every second
 /// one has the bits of 80 columns, and two of three the byte of one of the boards.
@@ -33,7 +35,7 @@ fn any_bytes(random: &mut Random) -> [u8; PROCESSOR_BYTES] {
         bytes[TGS] |= Mode::Eighty.tgs();
     }
     if !random.one_in(3) {
-        bytes[BOARD] = random.choice(&[0, 2, 8, 16]);
+        bytes[BOARD] = random.choice(&BOARDS);
     }
     bytes
 }
@@ -78,14 +80,17 @@ fn second_processor(state: State) -> second::Processor {
         lx_auxiliary: state.status & 0x10 != 0,
         phase: state.phase,
         marks: state.marks,
-        blocks: usize::from(state.blocks),
+        board: Board {
+            part: Part::numbered(state.part).expect("there are two parts"),
+            blocks: usize::from(state.blocks),
+        },
     }
 }
 
 /// A few operations of any kind, a draw into a picture of any length, and then draws in both phases.
-fn any_operations(random: &mut Random, blocks: u8) -> Vec<Asked> {
-    let mut operations = unplanned(random, blocks);
-    let lengths = Lengths::any_picture(random, usize::from(blocks));
+fn any_operations(random: &mut Random, board: Board) -> Vec<Asked> {
+    let mut operations = unplanned(random, board);
+    let lengths = Lengths::any_picture(random, board);
     operations.push(Asked::with(Operation::Draw, lengths));
     let phase = random.byte() % 2;
     let phases = [phase, 1 - phase].map(|phase| Operation::Turn { phase });
@@ -103,7 +108,7 @@ fn any_operations(random: &mut Random, blocks: u8) -> Vec<Asked> {
 /// How often each number was answered, and what the bytes told that no run from power-up leaves.
 #[derive(Debug, Default)]
 struct Met {
-    numbers: [usize; 13],
+    numbers: [usize; 15],
     phases_above_1: usize,
     both_lx: usize,
     /// Of 40 columns and of 80: rows redrawn in all, and those in such a phase.
@@ -112,21 +117,22 @@ struct Met {
     /// Refusals that left alone bytes which no call leaves.
     left_alone: usize,
     /// Processors of each board by its own byte; of 16 blocks by a byte that no call leaves.
-    boards: [usize; 3],
+    boards: [usize; 4],
     no_board: usize,
 }
 
 impl Met {
-    /// "0 stands for 16 blocks", and so does a byte that names none of the boards.
-    fn look_at_board(&mut self, byte: u8, blocks: u8) {
-        let (board, wanted) = match byte {
-            2 => (0, 2),
-            8 => (1, 8),
-            _ => (2, 16),
+    /// By the low four bits: 0 stands for 16 blocks, and so does a number that names none of the boards.
+    fn look_at_board(&mut self, byte: u8, board: Board) {
+        let number = match byte % 16 {
+            2 => 0,
+            8 => 1,
+            4 => 3,
+            _ => 2,
         };
-        assert_eq!(blocks, wanted, "the board of byte {byte}");
-        self.boards[board] += 1;
-        self.no_board += usize::from(![0, 2, 8, 16].contains(&byte));
+        assert_eq!(board, Board::ALL[number], "the board of byte {byte}");
+        self.boards[number] += 1;
+        self.no_board += usize::from(!BOARDS.contains(&byte));
     }
 
     fn look(&mut self, asked: Asked, report: &Report) {
@@ -135,7 +141,8 @@ impl Met {
         self.both_lx += usize::from(report.lxm + report.lxa == 2);
         if asked.operation == Operation::Draw {
             let rows = usize::from(report.value);
-            let width = usize::from(report.indirect[1] >= Mode::Eighty.tgs());
+            let is_eighty = report.part == 0 && report.indirect[1] >= Mode::Eighty.tgs();
+            let width = usize::from(is_eighty);
             self.rows[width] += rows;
             self.rows_above_1[width] += rows * usize::from(report.phase > 1);
         }
@@ -194,14 +201,11 @@ fn look_at_bytes(
 fn compare_one(seed: u64, met: &mut Met) {
     let mut random = Random::new(seed);
     let library = any_desk(&mut random);
-    let (byte, blocks) = (
-        library.processor.bytes()[BOARD],
-        library.processor.state().blocks,
-    );
-    met.look_at_board(byte, blocks);
     let second = second_desk(&library);
+    let board = second.processor.board;
+    met.look_at_board(library.processor.bytes()[BOARD], board);
     let mut pair = Pair::of(seed, library, second);
-    for asked in any_operations(&mut random, blocks) {
+    for asked in any_operations(&mut random, board) {
         let mut before = pair.library.clone();
         let report = pair.apply(asked);
         let told = format!("seed {seed}, {asked:?}");
@@ -219,7 +223,8 @@ fn every_operation_has_one_outcome_and_it_is_the_second_programs() {
         compare_one(seed, &mut met);
     }
     println!("{met:?}");
-    let numbers = (0..).zip(met.numbers).filter(|(number, _)| *number != 10);
+    let numbers = (0..).zip(met.numbers);
+    let numbers = numbers.filter(|(number, _)| ![10, 13].contains(number));
     let rare = numbers.map(|(_, times)| times).min().unwrap_or(0);
     assert!(rare >= 30, "a number that is rare: {met:?}");
     assert!(met.boards.iter().all(|times| *times > 200), "{met:?}");

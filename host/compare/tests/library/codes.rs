@@ -7,7 +7,7 @@ use compare::difference::assert_same;
 use compare::page::Page;
 use second::address::place;
 use second::page::screen_y;
-use second::{Mode, LINES, MEMORY, POSITIONS, ROWS};
+use second::{Board, Mode, LINES, POSITIONS, ROWS};
 
 use crate::drawn::{draw, shown};
 
@@ -31,7 +31,7 @@ fn code_at(page: usize, cell: usize) -> (u8, u8) {
 }
 
 fn page(number: usize, pat: u8, phase: u8) -> Page {
-    let mut memory = vec![0; MEMORY];
+    let mut memory = vec![0; Board::SIXTEEN.memory()];
     for cell in 0..CELLS {
         let (row, position) = (cell / POSITIONS, cell % POSITIONS);
         let (c, nibble) = code_at(number, cell);

@@ -17,7 +17,8 @@ const MARKS: usize = 19;
 /// memory is lent.
 pub fn shown(page: &mut Page) -> Result<Processor, Refusal> {
     let mut processor = Processor::power_up();
-    binturamis::power_up(&mut processor, page.blocks as u8)?;
+    let (part, blocks) = page.board.numbers();
+    binturamis::power_up(&mut processor, part, blocks)?;
     for (command, value) in [
         (TGS, page.tgs),
         (MAT, page.mat),

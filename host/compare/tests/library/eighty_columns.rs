@@ -16,7 +16,7 @@ fn it_is_the_second_programs_after_every_access() {
     for ror in [PRINTED_ROR, STRINGS_ROR] {
         let rom = Random::new(80).bytes(Lengths::WHOLE.rom);
         let mut pair = Pair::begin(0, vec![0; Lengths::WHOLE.memory], rom);
-        let mut numbers = [0; 13];
+        let mut numbers = [0; 15];
         for operation in operations(ror) {
             let report = pair.apply(Asked::right(operation));
             numbers[usize::from(report.number)] += 1;

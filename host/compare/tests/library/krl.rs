@@ -6,7 +6,7 @@ use compare::lengths::Lengths;
 use compare::pair::Pair;
 use second::pointer::Pointer;
 use second::random::Random;
-use second::{Mode, Operation};
+use second::{Mode, Operation, Part};
 
 const COMMANDS: [u8; 4] = [0x50, 0x51, 0x58, 0x59];
 
@@ -27,7 +27,7 @@ fn pointers() -> Vec<Pointer> {
 
 /// The writes that point the main pointer and fill the registers, and the one that executes.
 fn writes(pointer: Pointer, command: u8, random: &mut Random) -> [(u8, u8); 6] {
-    let (down, across) = pointer.main_registers();
+    let (down, across) = pointer.main_registers(Part::Ef9345);
     [
         (0x21, random.byte()),
         (0x22, random.byte()),

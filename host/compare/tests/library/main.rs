@@ -11,3 +11,4 @@ mod krl;
 mod operations;
 mod palettes;
 mod partial;
+mod ts9347;

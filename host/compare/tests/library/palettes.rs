@@ -6,7 +6,7 @@ use compare::difference::assert_same;
 use compare::page::Page;
 use second::address::{code_block, place};
 use second::page::screen_y;
-use second::{Mode, COLUMNS, LINES, MEMORY};
+use second::{Board, Mode, COLUMNS, LINES};
 
 use crate::drawn::{draw, shown};
 
@@ -25,7 +25,7 @@ fn position(palette: u8) -> (usize, usize) {
 
 /// A page with a quadrichrome cell of every palette, all of one character.
 fn page(character: u8) -> Page {
-    let mut memory = vec![0; MEMORY];
+    let mut memory = vec![0; Board::SIXTEEN.memory()];
     memory[3 * 1024..4 * 1024].fill(SLICE);
     for palette in 0..=255 {
         let (row, column) = position(palette);

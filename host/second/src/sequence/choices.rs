@@ -1,7 +1,9 @@
 //! The small choices that plans are made by.
 
+use crate::board::Board;
 use crate::cell::Cell;
 use crate::code::Code;
+use crate::part::Part;
 use crate::random::Random;
 use crate::{COLUMNS, POSITIONS, ROWS};
 
@@ -44,10 +46,10 @@ impl Sequence {
 
     /// A value for ROR whose origin is 8 to 31. On a smaller board most pages have a block that is
     /// fitted: on that of 2 blocks those at 0, without their third, and those at 2, whose third is 0.
-    pub(super) fn origin(&mut self, blocks: usize) -> u8 {
+    pub(super) fn origin(&mut self, board: Board) -> u8 {
         let byte = self.random.byte();
         let origin = 8 + byte % 24;
-        let first = match blocks {
+        let first = match board.blocks {
             2 if !self.random.one_in(5) => byte / 128,
             8 if !self.random.one_in(4) => byte / 64,
             _ => byte / 32,
@@ -56,16 +58,16 @@ impl Sequence {
     }
 
     /// A value for DOR, on a smaller board most often one that names blocks which are fitted.
-    pub(super) fn user_sets(&mut self, blocks: usize) -> u8 {
+    pub(super) fn user_sets(&mut self, board: Board) -> u8 {
         let byte = self.random.byte();
-        match blocks {
+        match board.blocks {
             2 if !self.random.one_in(3) => byte & 0x01,
             8 if !self.random.one_in(3) => byte & 0x37,
             _ => byte,
         }
     }
 
-    pub(super) fn cell(&mut self) -> Cell {
+    pub(super) fn cell(&mut self, part: Part) -> Cell {
         let byte = self.random.byte();
         let mut b = match self.random.below(10) {
             0..=2 => 0xC0 + byte % 0x40,
@@ -81,6 +83,7 @@ impl Sequence {
             self.random.byte()
         };
         let mut cell = Cell {
+            part,
             c,
             b,
             a: self.random.byte(),
@@ -102,6 +105,15 @@ impl Sequence {
         }
         let c = self.random.byte();
         Code { c, nibble }
+    }
+}
+
+/// The B byte of a cell that is bichrome: where it is not, the byte becomes that of a set in the ROM.
+pub fn bichrome_b(cell: Cell) -> u8 {
+    if cell.is_quadrichrome() {
+        cell.b - 0xC0
+    } else {
+        cell.b
     }
 }
 

@@ -6,7 +6,7 @@ use crate::pointer::Pointer;
 use crate::processor::Processor;
 use crate::{COLUMNS, LINES, ROWS};
 
-use super::Sequence;
+use super::{bichrome_b, Sequence};
 
 impl Sequence {
     pub(super) fn change_forty(&mut self, processor: &Processor, memory: &[u8]) {
@@ -23,7 +23,8 @@ impl Sequence {
     }
 
     pub(super) fn one_cell(&mut self, processor: &Processor) {
-        let (row, column, cell) = (self.row(), self.column(), self.cell());
+        let (row, column) = (self.row(), self.column());
+        let cell = self.cell(processor.board.part);
         self.store_cell(processor, row, column, cell);
     }
 
@@ -42,15 +43,16 @@ impl Sequence {
     /// The same double height cell in two to five rows, one below the other; then, often, a draw
     /// and another cell at the top of the run, which turns every half below it over.
     fn run_down(&mut self, processor: &Processor) {
-        let (top, column, mut cell) = (self.row(), self.column(), self.cell());
-        cell.b = (cell.b % 0xC0) | 0x02;
+        let (top, column) = (self.row(), self.column());
+        let mut cell = self.cell(processor.board.part);
+        cell.b = bichrome_b(cell) | 0x02;
         let bottom = (top + 2 + self.random.below(4)).min(ROWS);
         for row in top..bottom {
             self.store_cell(processor, row, column, cell);
         }
         if self.random.one_in(2) {
             self.waiting.push_back(Operation::Draw);
-            let other = self.cell();
+            let other = self.cell(processor.board.part);
             self.store_cell(processor, top, column, other);
             self.waiting.push_back(Operation::Draw);
         }
@@ -58,9 +60,10 @@ impl Sequence {
 
     /// The same cell in two to five columns by KRF with increment, past column 39 if it so falls.
     fn run_along(&mut self, processor: &Processor) {
-        let (row, column, mut cell) = (self.row(), self.column(), self.cell());
+        let (row, column) = (self.row(), self.column());
+        let mut cell = self.cell(processor.board.part);
         if !self.random.one_in(4) {
-            cell.b = (cell.b % 0xC0) | 0x08;
+            cell.b = bichrome_b(cell) | 0x08;
         }
         self.point_at_cell(processor, row, column);
         self.write(0x20, 0x01);

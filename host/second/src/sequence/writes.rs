@@ -3,10 +3,10 @@
 use crate::address::{code_block, fitted};
 use crate::cell::Cell;
 use crate::operation::Operation;
-use crate::page::{first_block, screen_y};
+use crate::page::screen_y;
+use crate::part::Part;
 use crate::pointer::Pointer;
 use crate::processor::Processor;
-use crate::BLOCKS;
 
 use super::Sequence;
 
@@ -20,29 +20,32 @@ impl Sequence {
         self.write(0x28, 0x80 + r);
     }
 
-    /// Bit 6 of R6, which is the auxiliary pointer's, is left to chance.
-    fn point_at(&mut self, pointer: Pointer) {
-        let (down, across) = pointer.main_registers();
-        let other = if self.random.one_in(2) { 0x40 } else { 0 };
+    /// Bit 6 of R6, where it is the auxiliary pointer's, is left to chance.
+    fn point_at(&mut self, part: Part, pointer: Pointer) {
+        let (down, across) = pointer.main_registers(part);
+        let is_other = part == Part::Ef9345 && self.random.one_in(2);
+        let other = if is_other { 0x40 } else { 0 };
         self.write(0x26, down + other);
         self.write(0x27, across);
     }
 
     pub(super) fn point_at_cell(&mut self, processor: &Processor, row: usize, column: usize) {
-        self.point_at(Pointer {
+        let pointer = Pointer {
             x: column,
             y: screen_y(processor.ror, row),
-            z: first_block(processor.ror),
-        });
+            z: processor.first_block(),
+        };
+        self.point_at(processor.board.part, pointer);
     }
 
     /// At the even positions the pointer is that of a cell of 40 columns.
     pub(super) fn point_at_position(&mut self, processor: &Processor, row: usize, position: usize) {
-        self.point_at(Pointer {
+        let pointer = Pointer {
             x: position / 2,
             y: screen_y(processor.ror, row),
-            z: first_block(processor.ror) + position % 2,
-        });
+            z: processor.first_block() + position % 2,
+        };
+        self.point_at(processor.board.part, pointer);
     }
 
     pub(super) fn store_cell(
@@ -85,8 +88,8 @@ impl Sequence {
     /// Whether a code goes by OCT, a byte at a time. Where a block of the page is not fitted KRF and KRL
     /// are refused, so that most do.
     fn goes_by_bytes(&mut self, processor: &Processor) -> bool {
-        let first = first_block(processor.ror);
-        let is_fitted = |byte| fitted(code_block(first, byte), processor.blocks);
+        let first = processor.first_block();
+        let is_fitted = |byte| fitted(code_block(first, byte), processor.board.blocks);
         !(0..3).all(is_fitted) && !self.random.one_in(4)
     }
 
@@ -96,9 +99,9 @@ impl Sequence {
             let pointer = Pointer {
                 x: column,
                 y: screen_y(processor.ror, row),
-                z: code_block(first_block(processor.ror), byte),
+                z: code_block(processor.first_block(), byte),
             };
-            if fitted(pointer.z, processor.blocks) || self.random.one_in(6) {
+            if fitted(pointer.z, processor.board.blocks) || self.random.one_in(6) {
                 let auxiliary = self.random.one_in(2);
                 self.store_byte(processor, pointer, auxiliary, value);
             }
@@ -108,9 +111,9 @@ impl Sequence {
     /// A byte at any legal place of the board, and now and then of a block that it does not have.
     pub(super) fn one_byte(&mut self, processor: &Processor) {
         let blocks = if self.random.one_in(4) {
-            BLOCKS
+            processor.board.part.named_blocks()
         } else {
-            processor.blocks
+            processor.board.blocks
         };
         let pointer = Pointer {
             x: self.column(),
@@ -127,7 +130,7 @@ impl Sequence {
         let pointer = Pointer {
             x: column,
             y: screen_y(processor.ror, row),
-            z: code_block(first_block(processor.ror), byte),
+            z: code_block(processor.first_block(), byte),
         };
         // A place past the end is not fitted: it has no bits, and the store is refused.
         let present = memory.get(pointer.place()).copied().unwrap_or(0);
@@ -143,16 +146,19 @@ impl Sequence {
         auxiliary: bool,
         value: u8,
     ) {
+        let part = processor.board.part;
         let increment = self.random.choice(&[0, 1]);
         if auxiliary {
-            let (down, across, z3) = pointer.auxiliary_registers();
+            let (down, across, z3) = pointer.auxiliary_registers(part);
             self.write(0x24, down);
             self.write(0x25, across);
-            let keep = processor.registers[6] & 0xBF;
-            self.write(0x26, keep + if z3 { 0x40 } else { 0 });
+            if let Some(z3) = z3 {
+                let keep = processor.registers[6] & 0xBF;
+                self.write(0x26, keep + if z3 { 0x40 } else { 0 });
+            }
             self.write(0x20, 0x34 + increment);
         } else {
-            let (down, across) = pointer.main_registers();
+            let (down, across) = pointer.main_registers(part);
             self.write(0x26, down);
             self.write(0x27, across);
             self.write(0x20, 0x30 + increment);

@@ -5,7 +5,7 @@ use second::bench::Bench;
 use second::operation::Operation;
 use second::page::screen_y;
 use second::processor::Processor;
-use second::Mode;
+use second::{Mode, Part};
 
 /// What the operation between two benches must leave as marks. A draw leaves none.
 pub fn expected_marks(before: &Bench, operation: Operation, after: &Bench) -> [bool; 25] {
@@ -21,8 +21,9 @@ fn marks_of_access(before: &Bench, after: &Bench) -> [bool; 25] {
     let (old, new) = (&before.processor, &after.processor);
     let shown =
         |processor: &Processor| [processor.ror, processor.dor, processor.pat, processor.tgs];
-    // MAT counts where TGS has bits 7 and 6, whatever else it has.
-    if shown(old) != shown(new) || (old.mat != new.mat && old.tgs >= 0xC0) {
+    // MAT counts where TGS of the EF9345 has bits 7 and 6, whatever else it has.
+    let counts = old.board.part == Part::Ef9345 && old.tgs >= 0xC0;
+    if shown(old) != shown(new) || (old.mat != new.mat && counts) {
         return [true; 25];
     }
     let mut marks = old.marks;
@@ -49,19 +50,21 @@ fn marks_of_turn(before: &Bench, after: &Bench) -> [bool; 25] {
 }
 
 /// Whether a cell of a row has the flash attribute, by the three bytes of each column: A3 of a
-/// bichrome cell, or bits 6 and 2 of the attributes of the two characters of 80 columns. A byte past
-/// the end of the memory is not fitted, and 0.
+/// bichrome cell, which every one of the TS9347 is, or bits 6 and 2 of the attributes of the two
+/// characters of 80 columns. A byte past the end of the memory is not fitted, and 0.
 fn flashes(bench: &Bench, row: usize) -> bool {
     let (page, ror) = (bench.processor.page(&bench.memory), bench.processor.ror);
+    let is_later = bench.processor.board.part == Part::Ts9347;
+    let z4 = usize::from(is_later && bench.processor.dor >= 0x80);
     let byte = |x: usize, byte: usize| {
-        let first = 2 * usize::from(ror / 32);
+        let first = 16 * z4 + 2 * usize::from(ror / 32);
         let place = place(x, screen_y(ror, row), first / 4 * 4 + (first + byte) % 4);
         bench.memory.get(place).copied().unwrap_or(0)
     };
     (0..40).any(|x| {
         let [first, second, third] = [0, 1, 2].map(|number| byte(x, number));
         match page.mode {
-            Mode::Forty => second < 0xC0 && third & 0x08 != 0,
+            Mode::Forty => (is_later || second < 0xC0) && third & 0x08 != 0,
             Mode::Eighty => {
                 (first < 0x80 && third & 0x40 != 0) || (second < 0x80 && third & 0x04 != 0)
             }
