@@ -1,5 +1,5 @@
 /*
- * The C interface of Binturamis, which takes the place of the EF9345 display processor.
+ * The C interface of Binturamis, which takes the place of the EF9345 display processor, and of the later TS9347.
  *
  * A host lends four things and keeps them between calls: a processor (64 bytes), the private memory, the character ROM and the picture.
  * It writes and reads the eight registers, turns the phase for cells that flash, and asks for the marked rows to be drawn again. The kept
@@ -7,13 +7,14 @@
  * processor that the call before it left. Another picture may be lent to a draw whenever every row is marked, as after a change of TGS: a
  * page of 80 columns has a longer picture than one of 40.
  *
- * Boards. The private memory has 2, 8 or 16 blocks of 1,024 bytes. The board is chosen at power-up and stays; each call is then lent as
- * many bytes as it has. A byte of a block that the board does not have is not fitted: a draw takes it as 0, and a command that would
- * store or read one is refused.
+ * Parts and boards. The part is an EF9345 or a TS9347. The private memory of an EF9345 has 2, 8 or 16 blocks of 1,024 bytes, that of a
+ * TS9347 has 32. Part and blocks are chosen at power-up and stay; each call is then lent as many bytes of memory as the board has, and a
+ * draw as many bytes of ROM as the part has. A byte of a block that the board does not have is not fitted: a draw takes it as 0, and a
+ * command that would store or read one is refused. A TS9347 has every block that its pointers can name.
  *
- * Answers. power_up_board, write, read, turn and draw answer 65,536 * number + value, the value having 16 bits. Number 0 is accepted; any other is a
- * refusal, by its number below. The value of an accepted read is the register's, that of an accepted draw the rows redrawn, and every
- * other value of an accepted call is 0. binturamis_number and binturamis_value take an answer apart.
+ * Answers. power_up_board, write, read, turn and draw answer 65,536 * number + value, the value having 16 bits. Number 0 is accepted; any
+ * other is a refusal, by its number below. The value of an accepted read is the register's, that of an accepted draw the rows redrawn, and
+ * every other value of an accepted call is 0. binturamis_number and binturamis_value take an answer apart.
  *
  * Buffers. No pointer may be NULL. No two of the things lent to one call may overlap, except the memory and the ROM of a draw, which are
  * only read; nor may anybody else write them meanwhile. A length is the number of bytes that may be touched from its pointer on. Any length
@@ -31,25 +32,33 @@
 
 /* The version of the library and of this header. */
 #define BINTURAMIS_VERSION_MAJOR 0u
-#define BINTURAMIS_VERSION_MINOR 5u
+#define BINTURAMIS_VERSION_MINOR 6u
 #define BINTURAMIS_VERSION_PATCH 0u
-#define BINTURAMIS_VERSION "0.5.0"
+#define BINTURAMIS_VERSION "0.6.0"
 
 /*
- * The bytes of each thing that is lent. The memory has these on the board of 16 blocks, and BINTURAMIS_BLOCK_BYTES times the blocks on
- * another. The picture has these in 40 columns, and BINTURAMIS_80_PICTURE_BYTES in 80.
+ * The bytes of each thing that is lent. Memory and ROM have these of an EF9345 with 16 blocks. With fewer blocks its memory has
+ * BINTURAMIS_BLOCK_BYTES for each; a TS9347 has the two that are named after it. The picture has these in 40 columns, and
+ * BINTURAMIS_80_PICTURE_BYTES in 80.
  */
 #define BINTURAMIS_PROCESSOR_BYTES 64u
 #define BINTURAMIS_MEMORY_BYTES 16384u
 #define BINTURAMIS_ROM_BYTES 6400u
 #define BINTURAMIS_PICTURE_BYTES 40000u
 #define BINTURAMIS_STATE_BYTES 48u
+#define BINTURAMIS_TS9347_MEMORY_BYTES 32768u
+#define BINTURAMIS_TS9347_ROM_BYTES 3840u
 
-/* A block of the private memory, and how many of them each of the three boards has. */
+/* The numbers of the parts. */
+#define BINTURAMIS_EF9345 0u
+#define BINTURAMIS_TS9347 1u
+
+/* A block of the private memory, and how many of them each board has: the first three are an EF9345's, the last is a TS9347's. */
 #define BINTURAMIS_BLOCK_BYTES 1024u
 #define BINTURAMIS_BOARD_2 2u
 #define BINTURAMIS_BOARD_8 8u
 #define BINTURAMIS_BOARD_16 16u
+#define BINTURAMIS_BOARD_32 32u
 
 /*
  * The picture in 40 columns: 25 rows of ten lines, row r in the 1,600 bytes from 1,600 * r. A line is 160 bytes, two pixels a byte, the
@@ -62,8 +71,8 @@
 #define BINTURAMIS_LINE_BYTES 160u
 
 /*
- * The picture in 80 columns: again 25 rows of ten lines, row r in the 2,400 bytes from 2,400 * r. A line is 240 bytes, packed in the same
- * way: 480 by 250 pixels, cells of six by ten.
+ * The picture in 80 columns, which only an EF9345 has: again 25 rows of ten lines, row r in the 2,400 bytes from 2,400 * r. A line is 240
+ * bytes, packed in the same way: 480 by 250 pixels, cells of six by ten.
  */
 #define BINTURAMIS_80_COLUMNS 80u
 #define BINTURAMIS_80_PICTURE_BYTES 60000u
@@ -71,35 +80,53 @@
 #define BINTURAMIS_80_LINE_BYTES 240u
 
 /*
- * The ROM: five sets of 128 characters of ten slices, in the order G0, G10, G11, G20, G21. The slice s of character c of a set is at
- * 1280 * set + 10 * c + s; its bit 0 is the leftmost pixel. In 80 columns characters are of G0, and their bits 0 to 5 are shown.
+ * The ROM: sets of 128 characters of ten slices. An EF9345 has five, in the order G0, G10, G11, G20, G21; a TS9347 has three, in the
+ * order G10, GOE, G0, a blank standing where the part has no character. The slice s of character c of a set is at
+ * 1280 * set + 10 * c + s, the first set being 0; its bit 0 is the leftmost pixel. In 80 columns characters are of G0, and their bits 0 to
+ * 5 are shown.
  */
 #define BINTURAMIS_SET_BYTES 1280u
 #define BINTURAMIS_SLICES 10u
 
 /*
  * Refusals. An access (write, read) is checked in the order 1, 2, 3, 4, 11; a phase change in the order 1, 9; a draw in the order 1, 5,
- * 7, 6, 8; power-up of a board can get 12 alone. The first that applies is answered. After 3, 4 and 11 the register access itself has
- * happened, and nothing else: a refused read still answers the value read. After 12 the processor is that of the board of 16 blocks. After
- * every other refusal nothing at all has changed, and the value is 0. Where nothing has changed (1, 2, 5 to 9, and 3, 4 and 11 of a read,
- * which writes no register) no byte of the processor is written either, whatever it holds.
+ * 7, 6, 8; power-up of a board in the order 14, 12. The first that applies is answered. After 3, 4 and 11 the register access itself has
+ * happened, and nothing else: a refused read still answers the value read. After 12 and 14 the processor is an EF9345 with 16 blocks.
+ * After every other refusal nothing at all has changed, and the value is 0. Where nothing has changed (1, 2, 5 to 9, and 3, 4 and 11 of a
+ * read, which writes no register) no byte of the processor is written either, whatever it holds.
  *
  * 11 looks at every byte of the command, of its read forms too: KRF has three, in the blocks Z, Z + 1 and Z + 2 of the pointer's
  * district; KRL has two, in the pointer's own block and in that of the attributes; OCT has one. IND and NOP have none. So on the board of
- * 2 blocks, where no district is whole, KRF and KRL are always refused and OCT stores.
+ * 2 blocks, where no district is whole, KRF and KRL are always refused and OCT stores. A TS9347 never gets 11.
  */
 #define BINTURAMIS_ACCEPTED 0u
 #define BINTURAMIS_WRONG_MEMORY 1u  /* private memory is not 1,024 bytes for each block of the board */
 #define BINTURAMIS_WRONG_ADDRESS 2u /* the address's high four bits are not 2 */
 #define BINTURAMIS_NOT_LISTED 3u    /* a command to execute is not one of those below */
 #define BINTURAMIS_BAD_POINTER 4u   /* its pointer has X above 39 or Y from 1 to 7 */
-#define BINTURAMIS_WRONG_ROM 5u     /* ROM is not 6,400 bytes */
+#define BINTURAMIS_WRONG_ROM 5u     /* ROM is not 6,400 bytes, or 3,840 of a TS9347 */
 #define BINTURAMIS_WRONG_PICTURE 6u /* picture is not 40,000 bytes, or 60,000 in 80 columns */
-#define BINTURAMIS_NOT_BUILT 7u     /* TGS bits 7, 6 or 5, or PAT bit 7, not zero; with TGS 7 and 6 both set, TGS 5 or PAT 7 */
+#define BINTURAMIS_NOT_BUILT 7u     /* TGS bits 7, 6 or 5, or PAT bit 7, not zero; of an EF9345 with TGS 7 and 6 both set, TGS 5 or PAT 7 */
 #define BINTURAMIS_LOW_ORIGIN 8u    /* origin YOR below 8 */
 #define BINTURAMIS_WRONG_PHASE 9u   /* phase is not 0 or 1 */
 #define BINTURAMIS_NOT_FITTED 11u   /* one of its bytes lies in a block that is not fitted */
-#define BINTURAMIS_WRONG_BOARD 12u  /* the number of blocks is not 2, 8 or 16 */
+#define BINTURAMIS_WRONG_BOARD 12u  /* the number of blocks is not 2, 8 or 16 of an EF9345, or 32 of a TS9347 */
+#define BINTURAMIS_UNKNOWN_PART 14u /* the part is not one of the two above */
+
+/*
+ * The pointers. The main one is R6 and R7, the auxiliary one R4 and R5: Y in bits 4 to 0 of the first, X in bits 5 to 0 of the second,
+ * whose bit 7 is Z0 and bit 6 is Z1. Of a TS9347 bits 7, 6 and 5 of the first are Z4, Z3 and Z2, in both pointers alike. Of an EF9345 bit 5
+ * is Z2 and Z3 is bit 7 of R6 for the main pointer, and bit 6 of R6, not of R4, for the auxiliary one. The page begins in an even block:
+ * its Z3, Z2 and Z1 are bits 7, 6 and 5 of ROR, and of a TS9347 its Z4 is bit 7 of DOR.
+ *
+ * The types of a cell in 40 columns, by bits 7 to 4 of B; U is underline, and s is the last figure of G'10 or G'11.
+ *
+ *     EF9345                                             TS9347
+ *     000U G0, 0010 G10, 0011 G11, 010U G20, 011U G21    0-0U G0, 0-10 G10, 0-11 GOE, where bit 6 is not looked at
+ *     100U user G'0, in block DOR 3..0                   the same
+ *     101s user G'1s, in block 2 * DOR 6..4 + s          the same
+ *     11-- quadrichrome, in block 8 * DOR 7 + B 5..3     user Q, in block 8 * DOR 7 + B 5..3: bichrome, never of double width
+ */
 
 /* The addresses of the registers. BINTURAMIS_EXECUTE added to one asks for the command in R0 to run after the access. */
 #define BINTURAMIS_R0 0x20u /* written: the command; read: the status */
@@ -129,10 +156,10 @@
 #define BINTURAMIS_READ 0x08u
 
 /*
- * KRL is for 80 columns, where the cell of position p, 0 to 79, is one of the two of column X = p / 2. Z0 of the main pointer (R7 bit 7)
- * is 0 for the left one, whose p is even, and 1 for the right one. R1 is C. The four attributes are taken from the high half of R3 for the
- * left cell and from the low half for the right one, so repeated in both they serve either; a read puts them into both. With INCREMENT
- * the pointer goes on to the next position, and from the last one of a row to its first.
+ * KRL is the EF9345's alone: a TS9347 refuses it with 3. It is for 80 columns, where the cell of position p, 0 to 79, is one of the two of
+ * column X = p / 2. Z0 of the main pointer (R7 bit 7) is 0 for the left one, whose p is even, and 1 for the right one. R1 is C. The four
+ * attributes are taken from the high half of R3 for the left cell and from the low half for the right one, so repeated in both they serve
+ * either; a read puts them into both. With INCREMENT the pointer goes on to the next position, and from the last one of a row to its first.
  */
 
 /* The numbers of the indirect registers, for IND. */
@@ -142,7 +169,7 @@
 #define BINTURAMIS_DOR 4u
 #define BINTURAMIS_ROR 7u
 
-/* The bits of TGS that say how many columns the page has: both set, 80; both clear, 40. */
+/* The bits of TGS that say how many columns the page has: both set, 80, which a TS9347 refuses with 7; both clear, 40. */
 #define BINTURAMIS_TGS_80 0xC0u
 
 /* The colours of a pixel. */
@@ -155,7 +182,7 @@
 #define BINTURAMIS_CYAN 6u
 #define BINTURAMIS_WHITE 7u
 
-/* Where each part of the state stands among the 48 bytes of binturamis_state. Byte 40 and the bytes past the blocks are 0. */
+/* Where each part of the state stands among the 48 bytes of binturamis_state. The bytes past the blocks are 0. */
 #define BINTURAMIS_STATE_R1 0u /* R1 to R7 in 0 to 6 */
 #define BINTURAMIS_STATE_R2 1u
 #define BINTURAMIS_STATE_R3 2u
@@ -172,33 +199,35 @@
 #define BINTURAMIS_STATE_ROR 13u
 #define BINTURAMIS_STATE_PHASE 14u
 #define BINTURAMIS_STATE_MARKS 15u /* row r at 15 + r, 1 if it is marked and else 0 */
-#define BINTURAMIS_STATE_BLOCKS 41u /* of the board: 2, 8 or 16 */
+#define BINTURAMIS_STATE_PART 40u  /* 0 an EF9345, 1 a TS9347 */
+#define BINTURAMIS_STATE_BLOCKS 41u /* of the board: 2, 8 or 16 of an EF9345, 32 of a TS9347 */
 
 #ifdef __cplusplus
 extern "C" {
 #endif
 
 /*
- * A processor: the registers, the marks, the phase and the board. Its bytes are the library's; begin with binturamis_power_up or
+ * A processor: the registers, the marks, the phase, the part and the board. Its bytes are the library's; begin with binturamis_power_up or
  * binturamis_power_up_board, and copy it freely, together with the memory and the picture that it belongs to. Bytes that no call has left
- * mean the state that binturamis_state tells of them, its board among the rest, and get the answers of that state; an accepted call then
- * leaves bytes of its own for the state after it. A refusal after which nothing has changed writes no byte of the processor.
+ * mean the state that binturamis_state tells of them, its part and board among the rest, and get the answers of that state; an accepted
+ * call then leaves bytes of its own for the state after it. A refusal after which nothing has changed writes no byte of the processor.
  */
 typedef struct {
     uint8_t bytes[64];
 } binturamis_processor;
 
 /*
- * Power-up of the board of 16 blocks: all registers and both LX bits 0, command 0x91, phase 0, every row marked. Memory and picture may
+ * Power-up of an EF9345 with 16 blocks: all registers and both LX bits 0, command 0x91, phase 0, every row marked. Memory and picture may
  * hold anything.
  */
 void binturamis_power_up(binturamis_processor *p);
 
 /*
- * The same of a board of 2, 8 or 16 blocks, to which every later call lends 1,024 times as many bytes of memory. The value is 0. Refusal:
- * 12 for any other number, and then the processor is that of the board of 16 blocks: later calls must lend 16,384 bytes.
+ * The same of a part with so many blocks: an EF9345 with 2, 8 or 16, or a TS9347 with 32. Every later call lends 1,024 times as many bytes
+ * of memory. The value is 0. Refusals: 14 for any other part, 12 for any other number of blocks; then the processor is an EF9345 with 16
+ * blocks, and later calls must lend 16,384 bytes of memory, and draws 6,400 of ROM.
  */
-uint32_t binturamis_power_up_board(binturamis_processor *p, uint8_t blocks);
+uint32_t binturamis_power_up_board(binturamis_processor *p, uint8_t part, uint8_t blocks);
 
 /* Writes the value to the register at the address, and then runs the command if the address asks for it. Refusals: 1, 2, 3, 4, 11. */
 uint32_t binturamis_write(binturamis_processor *p, uint8_t *memory, size_t memory_len, uint8_t address, uint8_t value);

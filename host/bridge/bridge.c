@@ -16,7 +16,7 @@
 #include "binturamis.h"
 
 /* Ends with a newline, and counts up when what goes over the pipes changes. */
-#define GREETING "binturamis bridge 3\n"
+#define GREETING "binturamis bridge 4\n"
 
 /* The bytes past a buffer's length that no call may change either. */
 #define SPARE 64
@@ -126,7 +126,7 @@ static uint32_t carry_out(enum call call, const uint8_t operands[2], binturamis_
         binturamis_power_up(p);
         return 0;
     case POWER_UP_BOARD:
-        return binturamis_power_up_board(p, operands[0]);
+        return binturamis_power_up_board(p, operands[0], operands[1]);
     case WRITE:
         return binturamis_write(p, memory.bytes, memory.length, operands[0], operands[1]);
     case READ:

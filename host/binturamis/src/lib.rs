@@ -1,11 +1,12 @@
-//! Binturamis takes the place of the EF9345 display processor: a host writes and reads the eight
-//! registers, and the library keeps the private memory and draws the page of 25 rows and 40 or 80
-//! columns, only the rows that have changed.
+//! Binturamis takes the place of the EF9345 display processor, and of the later TS9347: a host writes
+//! and reads the eight registers, and the library keeps the private memory and draws the page of 25 rows
+//! and 40 or 80 columns, only the rows that have changed.
 //!
 //! [`Panel`] owns a processor with its memory, its ROM and its picture. [`power_up`], [`write()`],
 //! [`read`], [`turn`] and [`draw`] do the same to a [`Processor`] and slices of the caller's, which
 //! may have any length; a wrong one is refused. Each refusal is a [`Refusal`], which has its number in
-//! the rules. A [`Board`] with less memory than 16 blocks is chosen at power-up.
+//! the rules. A [`Board`], which is a [`Part`] with the blocks of its memory, is chosen at power-up; without
+//! a choice it is an EF9345 with 16 blocks.
 //!
 //! ```
 //! use binturamis::{Panel, Refusal, ROM_BYTES};
@@ -37,6 +38,7 @@ mod board;
 mod engine;
 mod operation;
 mod panel;
+mod part;
 mod redrawn;
 mod refusal;
 mod size;
@@ -49,11 +51,13 @@ pub const VERSION: &str = env!("CARGO_PKG_VERSION");
 pub use board::Board;
 pub use operation::{draw, power_up, read, turn, write, Processor};
 pub use panel::Panel;
+pub use part::Part;
 pub use redrawn::Redrawn;
 pub use refusal::{Refusal, RefusedRead};
 pub use size::{
     BLOCK_BYTES, COLUMNS, COLUMNS_80, LINE_BYTES, LINE_BYTES_80, MEMORY_BYTES, PICTURE_BYTES,
     PICTURE_BYTES_80, PROCESSOR_BYTES, ROM_BYTES, ROWS, ROW_BYTES, ROW_BYTES_80, STATE_BYTES,
+    TS9347_MEMORY_BYTES, TS9347_ROM_BYTES,
 };
 pub use state::State;
 pub use width::{Width, TGS_80};

@@ -13,7 +13,7 @@ use crate::size::STATE_BYTES;
 #[link(name = "binturamis", kind = "static")]
 extern "C" {
     fn binturamis_power_up(p: *mut Processor);
-    fn binturamis_power_up_board(p: *mut Processor, blocks: u8) -> u32;
+    fn binturamis_power_up_board(p: *mut Processor, part: u8, blocks: u8) -> u32;
     fn binturamis_write(
         p: *mut Processor,
         memory: *mut u8,
@@ -40,9 +40,9 @@ pub fn power_up(processor: &mut Processor) {
     unsafe { binturamis_power_up(processor) }
 }
 
-pub fn power_up_board(processor: &mut Processor, blocks: u8) -> u32 {
+pub fn power_up_board(processor: &mut Processor, part: u8, blocks: u8) -> u32 {
     // SAFETY: the 64 bytes are borrowed for writing.
-    unsafe { binturamis_power_up_board(processor, blocks) }
+    unsafe { binturamis_power_up_board(processor, part, blocks) }
 }
 
 pub fn write(processor: &mut Processor, memory: &mut [u8], address: u8, value: u8) -> u32 {

@@ -8,7 +8,8 @@ use crate::refusal::{Refusal, RefusedRead};
 use crate::size::{PROCESSOR_BYTES, STATE_BYTES};
 use crate::state::State;
 
-/// A processor: the registers, the marks, the phase and the board, in bytes that are the library's.
+/// A processor: the registers, the marks, the phase, the part and the board, in bytes that are the
+/// library's.
 ///
 /// A clone goes with clones of the memory and the picture that the processor belongs to: the kept
 /// picture is right only if each operation has the state that the one before it left.
@@ -19,7 +20,7 @@ pub struct Processor {
 }
 
 impl Processor {
-    /// Of the board of 16 blocks: all registers and both LX bits 0, command 91 hex, phase 0, every row
+    /// Of an EF9345 with 16 blocks: all registers and both LX bits 0, command 91 hex, phase 0, every row
     /// marked. Memory and picture may hold anything.
     pub fn power_up() -> Processor {
         let mut processor = Processor::of_bytes([0; PROCESSOR_BYTES]);
@@ -27,7 +28,8 @@ impl Processor {
         processor
     }
 
-    /// The same of a board, to which every operation then lends [`Board::memory_bytes`].
+    /// The same of a board, to which every operation then lends [`Board::memory_bytes`], and a draw
+    /// [`Board::rom_bytes`].
     ///
     /// ```
     /// use binturamis::{Board, Processor, Refusal};
@@ -48,7 +50,8 @@ impl Processor {
     /// ```
     pub fn power_up_board(board: Board) -> Processor {
         let mut processor = Processor::of_bytes([0; PROCESSOR_BYTES]);
-        power_up(&mut processor, board.blocks()).expect("the library has every board");
+        let powered = power_up(&mut processor, board.part().number(), board.blocks());
+        powered.expect("the library has every board");
         processor
     }
 
@@ -73,20 +76,27 @@ impl Processor {
     }
 }
 
-/// Powers a processor up as that of a board of so many blocks, whatever it was before. Refusal: 12,
-/// and then it is that of the board of 16 blocks.
+/// Powers a processor up as the part of this number, with so many blocks, whatever it was before.
+/// Refusals: 14, 12, and then it is an EF9345 with 16 blocks.
 ///
 /// ```
-/// use binturamis::{Processor, Refusal};
+/// use binturamis::{Part, Processor, Refusal};
 ///
+/// let (ef9345, ts9347) = (Part::Ef9345.number(), Part::Ts9347.number());
 /// let mut processor = Processor::power_up();
-/// assert_eq!(binturamis::power_up(&mut processor, 8), Ok(()));
-/// assert_eq!(processor.state().blocks, 8);
-/// assert_eq!(binturamis::power_up(&mut processor, 9), Err(Refusal::WrongBoard));
+/// assert_eq!(binturamis::power_up(&mut processor, ef9345, 8), Ok(()));
+/// assert_eq!((processor.state().part, processor.state().blocks), (0, 8));
+/// assert_eq!(binturamis::power_up(&mut processor, ts9347, 32), Ok(()));
+/// assert_eq!((processor.state().part, processor.state().blocks), (1, 32));
+///
+/// // The EF9345 has no board of 32 blocks, and there is no part 2.
+/// let refused = binturamis::power_up(&mut processor, ef9345, 32);
+/// assert_eq!(refused, Err(Refusal::WrongBoard));
 /// assert_eq!(processor, Processor::power_up());
+/// assert_eq!(binturamis::power_up(&mut processor, 2, 32), Err(Refusal::UnknownPart));
 /// ```
-pub fn power_up(processor: &mut Processor, blocks: u8) -> Result<(), Refusal> {
-    let answered = engine::power_up_board(processor, blocks);
+pub fn power_up(processor: &mut Processor, part: u8, blocks: u8) -> Result<(), Refusal> {
+    let answered = engine::power_up_board(processor, part, blocks);
     Answer::of(answered).done()
 }
 

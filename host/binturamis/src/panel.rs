@@ -14,7 +14,7 @@ use crate::width::Width;
 /// nobody else writes the memory or the picture, and the ROM stays.
 ///
 /// The buffers have the right lengths, so that an access gets of the refusals 2, 3, 4 and 11, a phase
-/// change 9, and a draw 7 and 8. The board of 16 blocks never gets 11.
+/// change 9, and a draw 7 and 8. The boards of 16 and 32 blocks never get 11.
 ///
 /// ```
 /// use binturamis::{Panel, Refusal, LINE_BYTES, ROM_BYTES};
@@ -40,37 +40,52 @@ pub struct Panel {
     processor: Processor,
     board: Board,
     memory: Box<[u8]>,
-    rom: Box<[u8; ROM_BYTES]>,
+    rom: Box<[u8]>,
     /// Of the last accepted draw, as is its width.
     picture: Vec<u8>,
     width: Width,
 }
 
 impl Panel {
-    /// Power-up of the board of 16 blocks with a character ROM, zero memory and a zero picture of 40
+    /// Power-up of an EF9345 with 16 blocks, with its character ROM, zero memory and a zero picture of 40
     /// columns.
     pub fn new(rom: [u8; ROM_BYTES]) -> Panel {
-        Panel::with_board(Board::Sixteen, rom)
+        Panel::power_up(Board::Sixteen, Box::new(rom))
     }
 
-    /// The same of a board.
+    /// The same of a board, with the character ROM of its part. Refusal: 5, if the ROM has not
+    /// [`Board::rom_bytes`].
     ///
     /// ```
-    /// use binturamis::{Board, Panel, Refusal, ROM_BYTES};
+    /// use binturamis::{Board, Panel, Refusal, ROM_BYTES, TS9347_ROM_BYTES};
     ///
-    /// let mut panel = Panel::with_board(Board::Two, [0; ROM_BYTES]);
+    /// let mut panel = Panel::with_board(Board::Two, &[0; ROM_BYTES])?;
     /// assert_eq!(panel.board(), Board::Two);
     /// panel.write(0x20, 0x00)?; // KRF, whose third byte would be in block 2
     /// assert_eq!(panel.write(0x29, 0x41), Err(Refusal::NotFitted));
     /// assert_eq!(panel.memory(), [0; 2_048]);
+    ///
+    /// let panel = Panel::with_board(Board::ThirtyTwo, &[0; TS9347_ROM_BYTES])?;
+    /// assert_eq!(panel.memory(), [0; 32_768]);
+    /// let refused = Panel::with_board(Board::ThirtyTwo, &[0; ROM_BYTES]);
+    /// assert_eq!(refused, Err(Refusal::WrongRom));
     /// # Ok::<(), Refusal>(())
     /// ```
-    pub fn with_board(board: Board, rom: [u8; ROM_BYTES]) -> Panel {
+    pub fn with_board(board: Board, rom: &[u8]) -> Result<Panel, Refusal> {
+        if rom.len() == board.rom_bytes() {
+            Ok(Panel::power_up(board, rom.into()))
+        } else {
+            Err(Refusal::WrongRom)
+        }
+    }
+
+    /// The ROM has the board's length.
+    fn power_up(board: Board, rom: Box<[u8]>) -> Panel {
         Panel {
             processor: Processor::power_up_board(board),
             board,
             memory: vec![0; board.memory_bytes()].into(),
-            rom: Box::new(rom),
+            rom,
             picture: vec![0; Width::Forty.picture_bytes()],
             width: Width::Forty,
         }
@@ -139,8 +154,8 @@ impl Panel {
         &self.memory
     }
 
-    /// The character ROM.
-    pub fn rom(&self) -> &[u8; ROM_BYTES] {
+    /// The character ROM, as long as the part has it.
+    pub fn rom(&self) -> &[u8] {
         &self.rom
     }
 

@@ -6,8 +6,8 @@ use std::fmt;
 /// A refusal, by its number in the rules.
 ///
 /// An access is checked in the order 1, 2, 3, 4, 11, a phase change 1, 9 and a draw 1, 5, 7, 6, 8; the
-/// first that applies is given. A power-up can get 12 alone. After 3, 4 and 11 the register access
-/// itself has happened, and nothing else. After 12 the processor is that of the board of 16 blocks.
+/// first that applies is given. A power-up is checked 14, 12. After 3, 4 and 11 the register access
+/// itself has happened, and nothing else. After 12 and 14 the processor is an EF9345 with 16 blocks.
 /// After every other refusal nothing at all has changed.
 ///
 /// A later number is a new case, and a `match` that has thought of every refusal is then no longer
@@ -30,11 +30,12 @@ pub enum Refusal {
     NotListed = 3,
     /// Its pointer has X above 39 or Y from 1 to 7.
     BadPointer = 4,
-    /// ROM is not 6,400 bytes.
+    /// ROM is not 6,400 bytes, or 3,840 of a TS9347.
     WrongRom = 5,
     /// Picture is not 40,000 bytes, or 60,000 in 80 columns.
     WrongPicture = 6,
-    /// TGS bits 7, 6 or 5, or PAT bit 7, not zero; with TGS 7 and 6 both set, TGS 5 or PAT 7.
+    /// TGS bits 7, 6 or 5, or PAT bit 7, not zero; with TGS 7 and 6 both set, TGS 5 or PAT 7 of an
+    /// EF9345, while a TS9347 has no page of 80 columns.
     NotBuilt = 7,
     /// Origin YOR below 8.
     LowOrigin = 8,
@@ -42,13 +43,15 @@ pub enum Refusal {
     WrongPhase = 9,
     /// One of its bytes lies in a block that is not fitted: the board does not have it.
     NotFitted = 11,
-    /// The number of blocks is not 2, 8 or 16.
+    /// The number of blocks is not 2, 8 or 16 of an EF9345, or 32 of a TS9347.
     WrongBoard = 12,
+    /// The part is not 0, an EF9345, or 1, a TS9347.
+    UnknownPart = 14,
 }
 
 impl Refusal {
     /// Every refusal, by rising number.
-    pub const ALL: [Refusal; 11] = [
+    pub const ALL: [Refusal; 12] = [
         Refusal::WrongMemory,
         Refusal::WrongAddress,
         Refusal::NotListed,
@@ -60,9 +63,10 @@ impl Refusal {
         Refusal::WrongPhase,
         Refusal::NotFitted,
         Refusal::WrongBoard,
+        Refusal::UnknownPart,
     ];
 
-    /// The number in the rules: 1 to 9, 11 or 12.
+    /// The number in the rules: 1 to 9, 11, 12 or 14.
     pub fn number(self) -> u8 {
         self as u8
     }
@@ -88,15 +92,19 @@ impl Refusal {
             Refusal::WrongAddress => "the address's high four bits are not 2",
             Refusal::NotListed => "a command to execute is not listed",
             Refusal::BadPointer => "the command's pointer has X above 39 or Y from 1 to 7",
-            Refusal::WrongRom => "ROM is not 6,400 bytes",
+            Refusal::WrongRom => "ROM is not 6,400 bytes, or 3,840 of a TS9347",
             Refusal::WrongPicture => "picture is not 40,000 bytes, or 60,000 in 80 columns",
             Refusal::NotBuilt => {
-                "TGS bit 7 or 6 set without the other, or TGS bit 5 or PAT bit 7 set"
+                "TGS bit 7 or 6 set without the other, or TGS bit 5 or PAT bit 7 set; \
+                 of a TS9347, TGS bits 7 and 6 both set too"
             }
             Refusal::LowOrigin => "origin YOR below 8",
             Refusal::WrongPhase => "phase is not 0 or 1",
             Refusal::NotFitted => "a byte of the command lies in a block that is not fitted",
-            Refusal::WrongBoard => "the number of blocks is not 2, 8 or 16",
+            Refusal::WrongBoard => {
+                "the number of blocks is not 2, 8 or 16 of an EF9345, or 32 of a TS9347"
+            }
+            Refusal::UnknownPart => "the part is not 0, an EF9345, or 1, a TS9347",
         }
     }
 }

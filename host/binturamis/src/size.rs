@@ -2,12 +2,17 @@
 
 /// The bytes of a block of private memory.
 pub const BLOCK_BYTES: usize = 1_024;
-/// The bytes of private memory of the board of sixteen blocks;
+/// The bytes of private memory of the EF9345's board of sixteen blocks;
 /// [`Board::memory_bytes`](crate::Board::memory_bytes) has those of another.
 pub const MEMORY_BYTES: usize = 16 * BLOCK_BYTES;
-/// The bytes of the character ROM: five sets of 128 characters of ten slices, in the order G0, G10,
-/// G11, G20, G21.
+/// The bytes of private memory of the TS9347's board.
+pub const TS9347_MEMORY_BYTES: usize = 32 * BLOCK_BYTES;
+/// The bytes of the EF9345's character ROM: five sets of 128 characters of ten slices, in the order G0,
+/// G10, G11, G20, G21.
 pub const ROM_BYTES: usize = 6_400;
+/// The bytes of the TS9347's character ROM: three sets of 128 characters of ten slices, in the order
+/// G10, GOE, G0, a blank standing where the part has no character.
+pub const TS9347_ROM_BYTES: usize = 3_840;
 /// The bytes of a processor.
 pub const PROCESSOR_BYTES: usize = 64;
 /// The bytes in which the state is told.

@@ -1,5 +1,6 @@
 //! The state of a processor, told by name.
 
+use crate::part::Part;
 use crate::size::{ROWS, STATE_BYTES};
 use crate::width::Width;
 
@@ -36,7 +37,9 @@ pub struct State {
     pub phase: u8,
     /// The rows that the next draw redraws.
     pub marks: [bool; ROWS],
-    /// The blocks of the board: 2, 8 or 16.
+    /// The part's number: 0 an EF9345, 1 a TS9347.
+    pub part: u8,
+    /// The blocks of the board: 2, 8 or 16 of an EF9345, 32 of a TS9347.
     pub blocks: u8,
 }
 
@@ -64,12 +67,17 @@ impl State {
             ror: bytes[13],
             phase: bytes[14],
             marks,
+            part: bytes[40],
             blocks: bytes[41],
         }
     }
 
-    /// The width of the page, which says how long a picture a draw asks for.
+    /// The width of the page, which says how long a picture a draw asks for. A TS9347 has no page of 80
+    /// columns: where TGS asks it for one, a draw is refused, whatever picture it is lent.
     pub fn width(&self) -> Width {
-        Width::of_tgs(self.tgs)
+        match Part::from_number(self.part) {
+            Ok(Part::Ts9347) => Width::Forty,
+            _ => Width::of_tgs(self.tgs),
+        }
     }
 }

@@ -6,7 +6,7 @@ use std::io::Write;
 use std::path::Path;
 use std::process::{Command, Output, Stdio};
 
-const GREETING: &[u8] = b"binturamis bridge 3\n";
+const GREETING: &[u8] = b"binturamis bridge 4\n";
 
 /// What the bridge does with these bytes and no more.
 fn given(bytes: &[u8]) -> Output {
@@ -30,8 +30,8 @@ fn power_up() -> Vec<u8> {
 }
 
 /// Power-up of a board, as a request.
-fn power_up_board(blocks: u8) -> Vec<u8> {
-    [&[b'B', blocks, 0][..], &[0xAA; 64]].concat()
+fn power_up_board(part: u8, blocks: u8) -> Vec<u8> {
+    [&[b'B', part, blocks][..], &[0xAA; 64]].concat()
 }
 
 /// A phase change with a memory of this length, in which so many bytes are replaced from a start
@@ -55,12 +55,20 @@ fn it_ends_well_with_its_input() {
 
 #[test]
 fn it_powers_boards_up() {
-    for (blocks, number, left) in [(2, 0, 2), (8, 0, 8), (16, 0, 16), (9, 12, 16)] {
-        let answered = given(&power_up_board(blocks));
+    for (part, blocks, number, left) in [
+        (0, 2, 0, [0, 2]),
+        (0, 8, 0, [0, 8]),
+        (0, 16, 0, [0, 16]),
+        (1, 32, 0, [1, 32]),
+        (0, 9, 12, [0, 16]),
+        (1, 16, 12, [0, 16]),
+        (2, 32, 14, [0, 16]),
+    ] {
+        let answered = given(&power_up_board(part, blocks));
         assert!(answered.status.success());
         let answer = &answered.stdout[GREETING.len() + 64..];
         assert_eq!(answer[..4], [0, 0, number, 0]);
-        assert_eq!(answer[4 + 41], left, "the blocks that the state tells");
+        assert_eq!(answer[4 + 40..][..2], left, "what the state tells");
         assert_eq!(answer.len(), 4 + 48);
     }
 }

@@ -1,12 +1,12 @@
-//! The C interface as C sees it: the example of `examples/` compiles without a warning, links with
-//! the archive and prints what is expected; the header is C and C++ by itself; its constants are
-//! this package's.
+//! The C interface as C sees it: the examples of `examples/` compile without a warning, link with the
+//! archive and print what is expected; the header is C and C++ by itself; its constants are this
+//! package's.
 
 use std::fs;
 use std::path::{Path, PathBuf};
 use std::process::Command;
 
-use binturamis::{Board, Refusal, State, STATE_BYTES};
+use binturamis::{Board, Part, Refusal, State, STATE_BYTES};
 
 /// Where `make library` leaves the archive and the header.
 const LIBRARY: &str = env!("BINTURAMIS_LIBRARY");
@@ -81,6 +81,13 @@ fn the_example_prints_what_is_expected() -> Result<(), String> {
     assert_eq!(output, read(top().join("examples/panel.expected"))?);
     let of_the_rules = read(top().join("crates/panel/stdout"))?;
     assert!(output.starts_with(&of_the_rules), "{output}");
+    Ok(())
+}
+
+#[test]
+fn the_example_of_a_ts9347_prints_what_is_expected() -> Result<(), String> {
+    let output = run(&top().join("examples/ts9347.c"), "ts9347")?;
+    assert_eq!(output, read(top().join("examples/ts9347.expected"))?);
     Ok(())
 }
 
@@ -161,15 +168,16 @@ fn a_page_of_80_columns_is_drawn_by_the_headers_names() -> Result<(), String> {
     Ok(())
 }
 
-/// The boards by the header's names: power-up of each, and of one that there is not; then OCT to a byte
-/// that is fitted and to one that is not, KRF, and the blocks that the state tells.
+/// The boards by the header's names: power-up of each, of two that there are not and of a part that there is
+/// not, with the part and the memory that the state tells; then OCT to a byte that is fitted and to one that
+/// is not, KRF, and a memory of another length.
 const BOARDS: &str = r#"
 #include <stdio.h>
 
 #include "binturamis.h"
 
 static binturamis_processor p;
-static uint8_t memory[BINTURAMIS_MEMORY_BYTES];
+static uint8_t memory[BINTURAMIS_TS9347_MEMORY_BYTES];
 static size_t length;
 
 static void put(uint8_t address, uint8_t value)
@@ -177,22 +185,23 @@ static void put(uint8_t address, uint8_t value)
     printf(" %u", (unsigned)binturamis_number(binturamis_write(&p, memory, length, address, value)));
 }
 
-static void begin(uint8_t blocks)
+static void begin(uint8_t part, uint8_t blocks)
 {
     uint8_t state[BINTURAMIS_STATE_BYTES];
-    uint32_t answer = binturamis_power_up_board(&p, blocks);
+    uint32_t answer = binturamis_power_up_board(&p, part, blocks);
     binturamis_state(&p, state);
     length = (size_t)BINTURAMIS_BLOCK_BYTES * state[BINTURAMIS_STATE_BLOCKS];
-    printf("%u %u %u", (unsigned)binturamis_number(answer), (unsigned)binturamis_value(answer), (unsigned)length);
+    printf("%u %u:", (unsigned)binturamis_number(answer), (unsigned)binturamis_value(answer));
+    printf(" %u %u:", (unsigned)state[BINTURAMIS_STATE_PART], (unsigned)length);
 }
 
-static void try_board(uint8_t blocks)
+static void try_board(uint8_t part, uint8_t blocks)
 {
-    begin(blocks);
+    begin(part, blocks);
     put(BINTURAMIS_R0, BINTURAMIS_OCT);
     put(BINTURAMIS_R7, 0x80); /* block 1 */
     put(BINTURAMIS_R1 + BINTURAMIS_EXECUTE, 0x41);
-    put(BINTURAMIS_R6, 0x80); /* block 9 */
+    put(BINTURAMIS_R6, 0x80); /* block 9, or 17 of a TS9347 */
     put(BINTURAMIS_R1 + BINTURAMIS_EXECUTE, 0x42);
     put(BINTURAMIS_R6, 0x00);
     put(BINTURAMIS_R0 + BINTURAMIS_EXECUTE, BINTURAMIS_KRF);
@@ -203,10 +212,14 @@ static void try_board(uint8_t blocks)
 
 int main(void)
 {
-    try_board(BINTURAMIS_BOARD_2);
-    try_board(BINTURAMIS_BOARD_8);
-    try_board(BINTURAMIS_BOARD_16);
-    try_board(BINTURAMIS_BOARD_16 + 1);
+    try_board(BINTURAMIS_EF9345, BINTURAMIS_BOARD_2);
+    try_board(BINTURAMIS_EF9345, BINTURAMIS_BOARD_8);
+    try_board(BINTURAMIS_EF9345, BINTURAMIS_BOARD_16);
+    try_board(BINTURAMIS_TS9347, BINTURAMIS_BOARD_32);
+    printf("%u\n", (unsigned)memory[17 * BINTURAMIS_BLOCK_BYTES]);
+    try_board(BINTURAMIS_EF9345, BINTURAMIS_BOARD_32);
+    try_board(BINTURAMIS_TS9347, BINTURAMIS_BOARD_16);
+    try_board(BINTURAMIS_TS9347 + 1, BINTURAMIS_BOARD_32);
     return 0;
 }
 "#;
@@ -215,10 +228,14 @@ int main(void)
 fn the_boards_are_there_by_the_headers_names() -> Result<(), String> {
     let output = run_text(BOARDS, "boards")?;
     let wanted = [
-        "0 0 2048 0 0 0 0 11 0 11 1\n",
-        "0 0 8192 0 0 0 0 11 0 0 1\n",
-        "0 0 16384 0 0 0 0 0 0 0 1\n",
-        "12 0 16384 0 0 0 0 0 0 0 1\n",
+        "0 0: 0 2048: 0 0 0 0 11 0 11 1\n",
+        "0 0: 0 8192: 0 0 0 0 11 0 0 1\n",
+        "0 0: 0 16384: 0 0 0 0 0 0 0 1\n",
+        "0 0: 1 32768: 0 0 0 0 0 0 0 1\n",
+        "66\n",
+        "12 0: 0 16384: 0 0 0 0 0 0 0 1\n",
+        "12 0: 0 16384: 0 0 0 0 0 0 0 1\n",
+        "14 0: 0 16384: 0 0 0 0 0 0 0 1\n",
     ];
     assert_eq!(output, wanted.concat());
     Ok(())
@@ -273,6 +290,11 @@ fn the_headers_sizes_are_this_packages() -> Result<(), String> {
         ("BOARD_2", usize::from(Board::Two.blocks())),
         ("BOARD_8", usize::from(Board::Eight.blocks())),
         ("BOARD_16", usize::from(Board::Sixteen.blocks())),
+        ("BOARD_32", usize::from(Board::ThirtyTwo.blocks())),
+        ("EF9345", usize::from(Part::Ef9345.number())),
+        ("TS9347", usize::from(Part::Ts9347.number())),
+        ("TS9347_MEMORY_BYTES", binturamis::TS9347_MEMORY_BYTES),
+        ("TS9347_ROM_BYTES", binturamis::TS9347_ROM_BYTES),
         ("ROM_BYTES", binturamis::ROM_BYTES),
         ("PICTURE_BYTES", binturamis::PICTURE_BYTES),
         ("STATE_BYTES", STATE_BYTES),
@@ -307,6 +329,7 @@ fn the_headers_refusals_are_this_packages() -> Result<(), String> {
         "WRONG_PHASE",
         "NOT_FITTED",
         "WRONG_BOARD",
+        "UNKNOWN_PART",
     ];
     assert_eq!(names.len(), Refusal::ALL.len());
     for (name, refusal) in names.into_iter().zip(Refusal::ALL) {
@@ -329,7 +352,7 @@ fn the_headers_offsets_are_this_packages() -> Result<(), String> {
         *byte = at;
     }
     bytes[15 + 3] = 1;
-    bytes[41] = 41;
+    (bytes[40], bytes[41]) = (40, 41);
     let state = State::of_bytes(&bytes);
     for (name, byte) in [
         ("R1", state.r1),
@@ -347,6 +370,7 @@ fn the_headers_offsets_are_this_packages() -> Result<(), String> {
         ("DOR", state.dor),
         ("ROR", state.ror),
         ("PHASE", state.phase),
+        ("PART", state.part),
         ("BLOCKS", state.blocks),
     ] {
         let offset = constant(&header, &format!("STATE_{name}"));

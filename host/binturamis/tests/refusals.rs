@@ -8,9 +8,9 @@ use binturamis::{
 };
 
 #[test]
-fn the_numbers_are_1_to_9_and_11_and_12() {
+fn the_numbers_are_1_to_9_and_11_and_12_and_14() {
     let numbers = Refusal::ALL.map(Refusal::number);
-    assert_eq!(numbers, [1, 2, 3, 4, 5, 6, 7, 8, 9, 11, 12]);
+    assert_eq!(numbers, [1, 2, 3, 4, 5, 6, 7, 8, 9, 11, 12, 14]);
     for number in 0..=255 {
         let found = Refusal::of_number(number).map(Refusal::number);
         assert_eq!(found, numbers.contains(&number).then_some(number));
@@ -25,13 +25,15 @@ fn the_words_are_the_rules() {
         "refusal 2: the address's high four bits are not 2",
         "refusal 3: a command to execute is not listed",
         "refusal 4: the command's pointer has X above 39 or Y from 1 to 7",
-        "refusal 5: ROM is not 6,400 bytes",
+        "refusal 5: ROM is not 6,400 bytes, or 3,840 of a TS9347",
         "refusal 6: picture is not 40,000 bytes, or 60,000 in 80 columns",
-        "refusal 7: TGS bit 7 or 6 set without the other, or TGS bit 5 or PAT bit 7 set",
+        "refusal 7: TGS bit 7 or 6 set without the other, or TGS bit 5 or PAT bit 7 set; \
+         of a TS9347, TGS bits 7 and 6 both set too",
         "refusal 8: origin YOR below 8",
         "refusal 9: phase is not 0 or 1",
         "refusal 11: a byte of the command lies in a block that is not fitted",
-        "refusal 12: the number of blocks is not 2, 8 or 16",
+        "refusal 12: the number of blocks is not 2, 8 or 16 of an EF9345, or 32 of a TS9347",
+        "refusal 14: the part is not 0, an EF9345, or 1, a TS9347",
     ];
     assert_eq!(said, wanted);
 }

@@ -13,7 +13,7 @@ use crate::size::{PROCESSOR_BYTES, STATE_BYTES};
 const DIRECTORY: &str = env!("BINTURAMIS_LIBRARY");
 
 /// The bridge's first line. A bridge that greets with another one is of another version.
-const GREETING: &[u8] = b"binturamis bridge 3\n";
+const GREETING: &[u8] = b"binturamis bridge 4\n";
 
 #[derive(Clone, Copy)]
 pub enum Call {

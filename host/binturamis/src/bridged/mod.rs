@@ -25,8 +25,8 @@ pub fn power_up(processor: &mut Processor) {
     *processor = done.processor;
 }
 
-pub fn power_up_board(processor: &mut Processor, blocks: u8) -> u32 {
-    let done = with_child(|child| child.ask(Call::PowerUpBoard, [blocks, 0], processor, []));
+pub fn power_up_board(processor: &mut Processor, part: u8, blocks: u8) -> u32 {
+    let done = with_child(|child| child.ask(Call::PowerUpBoard, [part, blocks], processor, []));
     *processor = done.processor;
     done.answered
 }
