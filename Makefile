@@ -58,11 +58,12 @@ panel: target/bin/panel ## the program `panel` on the example of the rules
 target/bin/panel:
 	rt check panel
 
-rom: ## the demonstration ROMs, target/demonstration.rom and, with narrow letters for 80 columns, target/narrow.rom
+rom: ## the demonstration ROMs, target/demonstration.rom, with narrow letters for 80 columns target/narrow.rom, and target/ts9347.rom
 	@mkdir -p target
 	@cd host && cargo run --quiet --release --offline -p rom -- ../target/demonstration.rom
 	@cd host && cargo run --quiet --release --offline -p rom -- --narrow ../target/narrow.rom
-	@echo "target/demonstration.rom and target/narrow.rom are written"
+	@cd host && cargo run --quiet --release --offline -p rom -- --ts9347 ../target/ts9347.rom
+	@echo "target/demonstration.rom, target/narrow.rom and target/ts9347.rom are written"
 
 format: ## the layout of every file
 	rt fmt

@@ -1,4 +1,4 @@
-//! The bytes of a ROM with drawn characters in their places.
+//! The bytes of an EF9345's ROM with drawn characters in their places.
 
 use std::collections::HashMap;
 

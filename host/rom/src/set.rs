@@ -1,4 +1,4 @@
-//! The five sets of the ROM, in the order in which it holds them.
+//! The five sets of an EF9345's ROM, in the order in which it holds them.
 
 /// The codes of a set: C modulo 128.
 pub const CODES: usize = 128;

@@ -4,7 +4,7 @@ use std::fs;
 use std::path::PathBuf;
 use std::process::{Command, Output};
 
-use rom::{demonstration, narrow};
+use rom::{demonstration, narrow, ts9347};
 
 /// A file of this test in the folder that cargo keeps for tests.
 fn file(name: &str) -> PathBuf {
@@ -37,6 +37,15 @@ fn it_writes_the_narrow_rom() {
     let output = run(&["--narrow", &written.to_string_lossy()]);
     assert!(output.status.success(), "{}", told(&output));
     let (rom, _) = narrow().expect("the texts are right");
+    assert_eq!(fs::read(written).expect("it was written"), rom);
+}
+
+#[test]
+fn it_writes_the_rom_of_the_ts9347() {
+    let written = file("ts9347.rom");
+    let output = run(&["--ts9347", &written.to_string_lossy()]);
+    assert!(output.status.success(), "{}", told(&output));
+    let (rom, _) = ts9347::demonstration().expect("the texts are right");
     assert_eq!(fs::read(written).expect("it was written"), rom);
 }
 
@@ -84,9 +93,18 @@ fn a_wrong_command_line_is_told() {
     for (words, wrong) in [
         (&[][..], "the file to write is not named"),
         (&["--narrow"], "the file to write is not named"),
+        (&["--ts9347"], "the file to write is not named"),
         (&["--out", "some.rom"], "there is no flag --out"),
         (&["--narrow", "--out"], "there is no flag --out"),
         (&["some.rom", "--narrow"], "there is no flag --narrow"),
+        (
+            &["--ts9347", "--narrow", "some.rom"],
+            "there is no flag --narrow",
+        ),
+        (
+            &["--ts9347", "some.rom", "some.txt"],
+            "--ts9347 takes no texts",
+        ),
         (
             &["--narrow", "some.rom", "some.txt"],
             "--narrow takes no texts",
@@ -103,5 +121,7 @@ fn help_is_printed() {
     let output = run(&["--help"]);
     assert!(output.status.success());
     let printed = String::from_utf8_lossy(&output.stdout);
-    assert!(printed.contains("rom OUTPUT") && printed.contains("rom --narrow OUTPUT"));
+    for words in ["rom OUTPUT", "rom --narrow OUTPUT", "rom --ts9347 OUTPUT"] {
+        assert!(printed.contains(words), "{words}");
+    }
 }

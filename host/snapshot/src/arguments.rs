@@ -3,7 +3,7 @@
 use std::ffi::{OsStr, OsString};
 use std::path::PathBuf;
 
-use binturamis::Board;
+use binturamis::{Board, Part, Refusal};
 
 use crate::terminal::Asked;
 
@@ -13,19 +13,22 @@ snapshot ACCESSES  shows the page that recorded register accesses draw
 ACCESSES is a file of byte pairs, an address and a value, which are written one
 after the other from power-up; - is standard input. An odd last byte is ignored.
 
-  --rom FILE    the character ROM, 6,400 bytes; else the demonstration ROM, which
-                has narrow letters for a page of 80 columns
+  --rom FILE    the character ROM, 6,400 bytes, or 3,840 of a TS9347; else the
+                demonstration ROM of the part, with narrow letters for a page of
+                80 columns
   --png FILE    writes the picture as a PNG too
   --phase 0|1   the phase of what flashes; else 0
-  --blocks N    the blocks of the board's private memory: 2, 8 or 16; else 16
+  --part PART   the display processor, ef9345 or ts9347; else ef9345
+  --blocks N    the blocks of its private memory: 2, 8 or 16 of an EF9345, else 16;
+                32 of a TS9347, which has no others
   --plain       without colour, --colour with it; else as the terminal has it
   --help        says this
 
-The picture has 320 by 250 pixels, or 480 by 250 where TGS asks for 80 columns. It
-is fitted to the terminal: COLUMNS is its width, or what stty says; where neither
-is known every pixel is shown. It ends with 1 if a file cannot be read or written
-or a ROM is wrong, 2 if the command line is wrong, and 3 if the draw is refused.
-Refused accesses are told and do not stop it.
+The picture has 320 by 250 pixels, or 480 by 250 where TGS asks an EF9345 for 80
+columns. It is fitted to the terminal: COLUMNS is its width, or what stty says;
+where neither is known every pixel is shown. It ends with 1 if a file cannot be
+read or written or a ROM is wrong, 2 if the command line is wrong, and 3 if the
+draw is refused. Refused accesses are told and do not stop it.
 ";
 
 /// Where the accesses come from.
@@ -71,7 +74,7 @@ pub fn parse(words: impl Iterator<Item = OsString>) -> Result<Command, String> {
         rom: parser.rom,
         png: parser.png,
         phase: parser.phase.unwrap_or(0),
-        board: parser.board.unwrap_or(Board::Sixteen),
+        board: board(parser.part.unwrap_or(Part::Ef9345), parser.blocks)?,
         asked: parser.asked,
     }))
 }
@@ -82,7 +85,9 @@ struct Parser {
     rom: Option<PathBuf>,
     png: Option<PathBuf>,
     phase: Option<u8>,
-    board: Option<Board>,
+    part: Option<Part>,
+    /// As they were given: which are right depends on the part, and that may be named later.
+    blocks: Option<OsString>,
     asked: Option<Asked>,
 }
 
@@ -99,9 +104,13 @@ impl Parser {
                 let phase = phase(&operand("--phase", words)?)?;
                 once(&mut self.phase, "--phase", phase)
             }
+            Some("--part") => {
+                let part = part(&operand("--part", words)?)?;
+                once(&mut self.part, "--part", part)
+            }
             Some("--blocks") => {
-                let board = board(&operand("--blocks", words)?)?;
-                once(&mut self.board, "--blocks", board)
+                let blocks = operand("--blocks", words)?;
+                once(&mut self.blocks, "--blocks", blocks)
             }
             Some("--plain") => once(&mut self.asked, "--plain or --colour", Asked::Plain),
             Some("--colour") => once(&mut self.asked, "--plain or --colour", Asked::Colour),
@@ -140,11 +149,31 @@ fn phase(word: &OsStr) -> Result<u8, String> {
     }
 }
 
-fn board(word: &OsStr) -> Result<Board, String> {
+fn part(word: &OsStr) -> Result<Part, String> {
+    match word.to_str() {
+        Some("ef9345") => Ok(Part::Ef9345),
+        Some("ts9347") => Ok(Part::Ts9347),
+        _ => Err(format!(
+            "refusal {}: the part is ef9345 or ts9347, and not {}",
+            Refusal::UnknownPart.number(),
+            word.to_string_lossy()
+        )),
+    }
+}
+
+/// The board of a part with the blocks that were given, or with all that its pointers can name.
+fn board(part: Part, blocks: Option<OsString>) -> Result<Board, String> {
+    let (all, has) = match part {
+        Part::Ef9345 => (Board::Sixteen, "an EF9345 has 2, 8 or 16 blocks"),
+        Part::Ts9347 => (Board::ThirtyTwo, "a TS9347 has 32 blocks"),
+    };
+    let Some(word) = blocks else {
+        return Ok(all);
+    };
     let blocks = word.to_str().and_then(|word| word.parse().ok());
-    let board = blocks.and_then(|blocks| Board::from_blocks(blocks).ok());
+    let board = blocks.and_then(|blocks| Board::new(part, blocks).ok());
     board.ok_or_else(|| {
-        let word = word.to_string_lossy();
-        format!("a board has 2, 8 or 16 blocks, and not {word}")
+        let (number, word) = (Refusal::WrongBoard.number(), word.to_string_lossy());
+        format!("refusal {number}: {has}, and not {word}")
     })
 }

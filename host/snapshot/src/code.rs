@@ -1,6 +1,6 @@
 //! The three code bytes of a cell, made from its character and its look.
 
-use rom::Set;
+use rom::{ts9347, Set};
 
 use crate::colour::Colour;
 
@@ -92,18 +92,34 @@ impl Look {
 }
 
 impl Code {
-    /// A bichrome cell. B7..4 name the set, B3 is double width, B1 double height.
+    /// A bichrome cell of an EF9345. B7..4 name the set, B3 is double width, B1 double height.
     pub fn bichrome(set: Set, c: u8, look: Look) -> Code {
-        let wide = u8::from(look.is_wide);
-        let tall = u8::from(look.is_tall);
+        let set_bits = set_bits(set, look.is_underlined);
+        Code::of_bits(set_bits << 4 | u8::from(look.is_wide) << 3, c, look)
+    }
+
+    /// The same of a TS9347, whose sets have bits of their own.
+    pub fn of_ts9347(set: ts9347::Set, c: u8, look: Look) -> Code {
+        let set_bits = ts9347_set_bits(set, look.is_underlined);
+        Code::of_bits(set_bits << 4 | u8::from(look.is_wide) << 3, c, look)
+    }
+
+    /// A cell of a TS9347's user set Q, which is bichrome: B7 and B6 are set, and B5..3 choose the block of
+    /// its slices. So it has no bit for double width, and it is not underlined.
+    pub fn of_user_set_q(q: u8, c: u8, look: Look) -> Code {
+        Code::of_bits(0xC0 | (q % 8) << 3, c, look)
+    }
+
+    /// B with its bits 7 to 3 and double height, and A.
+    fn of_bits(bits: u8, c: u8, look: Look) -> Code {
         Code {
             c,
-            b: set_bits(set, look.is_underlined) << 4 | wide << 3 | tall << 1,
+            b: bits | u8::from(look.is_tall) << 1,
             a: look.a(),
         }
     }
 
-    /// A quadrichrome cell of high resolution: B7 and B6 are set, B5..3 choose the block of its
+    /// A quadrichrome cell of an EF9345, of high resolution: B7 and B6 are set, B5..3 choose the block of its
     /// slices, and A has a bit set for each colour of the palette.
     pub fn quadrichrome(block: u8, c: u8, palette: u8) -> Code {
         Code {
@@ -114,7 +130,16 @@ impl Code {
     }
 }
 
-/// B7..4 of a set. The lowest is the underline of an alphanumeric set.
+/// B7..4 of a TS9347's set. The lowest is the underline of G0.
+fn ts9347_set_bits(set: ts9347::Set, is_underlined: bool) -> u8 {
+    match set {
+        ts9347::Set::G0 => u8::from(is_underlined),
+        ts9347::Set::G10 => 2,
+        ts9347::Set::Goe => 3,
+    }
+}
+
+/// B7..4 of an EF9345's set. The lowest is the underline of an alphanumeric set.
 fn set_bits(set: Set, is_underlined: bool) -> u8 {
     let underline = u8::from(is_underlined);
     match set {

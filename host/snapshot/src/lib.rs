@@ -1,12 +1,13 @@
 //! Shows the page that register accesses draw, in the terminal and as a PNG, and holds the
-//! demonstration pages, one of 40 columns and one of 80: the accesses with which a plant's controller
-//! would program the chip.
+//! demonstration pages, one of 40 columns for either part and one of 80 for the EF9345: the accesses with
+//! which a plant's controller would program the chip.
 
 pub mod access;
 pub mod arguments;
 pub mod code;
 pub mod colour;
 pub mod demonstration;
+pub mod drawing;
 pub mod eighty;
 pub mod grid;
 pub mod panel;
@@ -17,4 +18,5 @@ pub mod recipes;
 pub mod registers;
 pub mod shown;
 pub mod terminal;
+pub mod two_colours;
 pub mod writer;

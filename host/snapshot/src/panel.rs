@@ -2,7 +2,7 @@
 
 use std::fmt::{self, Display, Formatter};
 
-use binturamis::{Board, Panel, Refusal, Width, ROM_BYTES};
+use binturamis::{Board, Panel, Refusal, Width};
 
 use crate::access::Access;
 
@@ -45,7 +45,8 @@ pub fn play(panel: &mut Panel, accesses: &[Access]) -> Played {
 /// The width of the page that the accesses ask for. It depends on the board, since TGS may get what a
 /// command has read, or was refused to read; it does not depend on the ROM.
 pub fn width(board: Board, accesses: &[Access]) -> Width {
-    let mut panel = Panel::with_board(board, [0; ROM_BYTES]);
+    let rom = vec![0; board.rom_bytes()];
+    let mut panel = Panel::with_board(board, &rom).expect("the ROM is as long as the board's");
     play(&mut panel, accesses);
     panel.state().width()
 }

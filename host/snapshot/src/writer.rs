@@ -1,5 +1,7 @@
 //! A writer of cells in 40 columns, with the code of three bytes: each cell and each user character
-//! as the register writes that store it.
+//! as the register writes that store it, by the pointers that the part has.
+
+use binturamis::Part;
 
 use crate::access::Access;
 use crate::code::Code;
@@ -8,6 +10,9 @@ use crate::registers::{y_of, Registers};
 /// The columns of the page; the pointer goes back to the first from the last.
 const COLUMNS: u8 = 40;
 
+/// The bits of R7 that are X; the others are Z0 and Z1.
+const X: u8 = 0x3F;
+
 /// Commands, as they are written to R0.
 const KRF_WITH_INCREMENT: u8 = 0x01;
 const OCT_AT_AUXILIARY: u8 = 0x34;
@@ -15,23 +20,49 @@ const OCT_AT_AUXILIARY: u8 = 0x34;
 #[derive(Clone, Debug)]
 pub struct Writer {
     registers: Registers,
+    part: Part,
+    /// The first block of the page.
+    page: u8,
 }
 
 impl Writer {
-    /// Goes on where the registers were left.
+    /// Of an EF9345, with the page in the blocks from 0 on. Goes on where the registers were left.
     pub fn of(registers: Registers) -> Writer {
-        Writer { registers }
+        Writer {
+            registers,
+            part: Part::Ef9345,
+            page: 0,
+        }
+    }
+
+    /// Of a TS9347, with the page in the blocks from an even one on.
+    pub fn of_ts9347(registers: Registers, page: u8) -> Writer {
+        Writer {
+            registers,
+            part: Part::Ts9347,
+            page,
+        }
+    }
+
+    pub fn part(&self) -> Part {
+        self.part
     }
 
     pub fn accesses(self) -> Vec<Access> {
         self.registers.accesses()
     }
 
-    /// Points the main pointer at a cell of the page, which is in the blocks from 0 on.
+    /// Points the main pointer at a cell of the page.
     pub fn at(&mut self, row: usize, column: usize) {
-        let auxiliary_z3 = self.registers.held(6) & 0x40;
-        self.registers.set(6, auxiliary_z3 | y_of(row));
-        self.registers.set(7, column as u8);
+        let (x, y) = (column as u8, y_of(row));
+        match self.part {
+            Part::Ef9345 => {
+                let auxiliary_z3 = self.registers.held(6) & 0x40;
+                self.registers.set(6, auxiliary_z3 | y);
+                self.registers.set(7, x);
+            }
+            Part::Ts9347 => self.point([6, 7], x, y, self.page),
+        }
     }
 
     /// Stores the code of a cell at the main pointer by KRF, and goes on to the next column. From
@@ -41,8 +72,9 @@ impl Writer {
         self.registers.set(2, code.b);
         self.registers.set(3, code.a);
         self.registers.execute(1, code.c);
-        let next = (self.registers.held(7) + 1) % COLUMNS;
-        self.registers.changed(7, next);
+        let held = self.registers.held(7);
+        let next = ((held & X) + 1) % COLUMNS;
+        self.registers.changed(7, held & !X | next);
     }
 
     /// Stores the slices of a user or quadrichrome character in a block, by OCT at the auxiliary
@@ -56,12 +88,26 @@ impl Writer {
         }
     }
 
-    /// Z2 stands beside Y in R4, Z0 and Z1 beside X in R5, and Z3 alone in R6 bit 6.
     fn auxiliary(&mut self, x: u8, y: u8, z: u8) {
+        match self.part {
+            Part::Ef9345 => self.auxiliary_of_ef9345(x, y, z),
+            Part::Ts9347 => self.point([4, 5], x, y, z),
+        }
+    }
+
+    /// Z2 stands beside Y in R4, Z0 and Z1 beside X in R5, and Z3 alone in R6 bit 6.
+    fn auxiliary_of_ef9345(&mut self, x: u8, y: u8, z: u8) {
         let bit = |number: u8| z >> number & 1;
         let main = self.registers.held(6) & !0x40;
         self.registers.set(6, main | bit(3) << 6);
         self.registers.set(4, bit(2) << 5 | y);
         self.registers.set(5, bit(0) << 7 | bit(1) << 6 | x);
+    }
+
+    /// Either pointer of a TS9347, by its two registers: Z4, Z3 and Z2 stand beside Y, Z0 and Z1 beside X.
+    fn point(&mut self, [down, across]: [u8; 2], x: u8, y: u8, z: u8) {
+        let bit = |number: u8| z >> number & 1;
+        self.registers.set(down, (z / 4) << 5 | y);
+        self.registers.set(across, bit(0) << 7 | bit(1) << 6 | x);
     }
 }

@@ -1,12 +1,14 @@
-//! The demonstration page of 40 columns: every access is accepted, the picture is kept, only the alarm flashes, and
+//! The demonstration page of 40 columns of an EF9345: every access is accepted, the picture is kept, only the alarm flashes, and
 //! the picture in the documents is the one that is drawn.
 
 #[path = "pages/checks.rs"]
 mod checks;
+#[path = "pages/documents.rs"]
+mod documents;
 
 use std::process::Command;
 
-use binturamis::{Panel, ROWS, ROW_BYTES};
+use binturamis::{Board, Panel, ROWS, ROW_BYTES};
 use snapshot::demonstration::page;
 use snapshot::panel::play;
 
@@ -61,28 +63,31 @@ fn the_second_program_draws_the_same() {
 #[test]
 fn the_page_does_not_depend_on_what_memory_held() {
     let (rom, _) = rom::demonstration().expect("the texts are right");
-    checks::the_page_does_not_depend_on_what_memory_held(&rom, &page());
+    checks::the_page_does_not_depend_on_what_memory_held(Board::Sixteen, &rom, &page());
 }
 
 #[test]
 fn the_picture_in_the_documents_is_the_one_drawn() {
-    checks::the_picture_in_the_documents_is_the_one_drawn(panel(), "demo.png");
+    documents::the_picture_in_the_documents_is_the_one_drawn(panel(), "demo.png");
 }
 
 #[test]
 fn the_program_writes_the_accesses() {
-    checks::the_program_writes_the_accesses("40", &page());
+    checks::the_program_writes_the_accesses(&["40"], &page());
 }
 
 #[test]
 fn another_word_is_told_what_there_is() {
-    for words in [&[][..], &["41"], &["40", "80"]] {
+    for words in [&[][..], &["41"], &["40", "80"], &["80", "ts9347"]] {
         let program = env!("CARGO_BIN_EXE_demonstration");
         let output = Command::new(program).args(words).output();
         let output = output.expect("the program runs");
         assert_eq!(output.status.code(), Some(2));
         assert!(output.stdout.is_empty());
         let told = String::from_utf8_lossy(&output.stderr).to_string();
-        assert_eq!(told, "usage: demonstration 40, or demonstration 80\n");
+        assert_eq!(
+            told,
+            "usage: demonstration 40, demonstration 40 ts9347, or demonstration 80\n"
+        );
     }
 }

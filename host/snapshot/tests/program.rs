@@ -8,7 +8,7 @@ use std::path::{Path, PathBuf};
 use std::process::{Command, Output, Stdio};
 
 use snapshot::access::to_bytes;
-use snapshot::demonstration::page;
+use snapshot::demonstration::{page, ts9347};
 use snapshot::recipes;
 use snapshot::terminal::{allows_colour, of_size};
 
@@ -246,6 +246,89 @@ fn a_smaller_board_refuses_what_is_not_fitted() {
     assert!(printed(&output).lines().all(|line| line.trim().is_empty()));
 }
 
+/// The letter A of G0 in the first cell of the service row of a page in block 16, white on black, as a TS9347
+/// has it: R6 bit 7 is Z4.
+const LETTER_OF_TS9347: [u8; 16] = [
+    0x21, 0x80, 0x28, 0x84, 0x21, 0x08, 0x28, 0x87, 0x26, 0x80, 0x20, 0x00, 0x23, 0x70, 0x29, 0x41,
+];
+
+#[test]
+fn a_ts9347_is_shown_where_the_part_is_named() {
+    let accesses = with("ts9347", &LETTER_OF_TS9347);
+    let first = |output: &Output| printed(output).lines().next().map(str::to_string);
+    for words in [
+        &["--part", "ts9347"][..],
+        &["--part", "ts9347", "--blocks", "32"],
+        &["--blocks", "32", "--part", "ts9347"],
+    ] {
+        let mut all: Vec<&Path> = words.iter().map(|word| path(word)).collect();
+        all.push(&accesses);
+        let output = run(&all);
+        assert!(output.status.success(), "{}", told(&output));
+        assert!(!told(&output).contains("refused"), "{}", told(&output));
+        assert_eq!(first(&output), Some("▗▄▖".to_string()));
+    }
+    // An EF9345 has the cell in block 8 and the page in block 0.
+    for words in [&[][..], &["--part", "ef9345"]] {
+        let mut all: Vec<&Path> = words.iter().map(|word| path(word)).collect();
+        all.push(&accesses);
+        assert_eq!(first(&run(&all)), Some(String::new()));
+    }
+}
+
+/// The same letter of a ROM whose third set, G0, is the user's.
+#[test]
+fn the_rom_of_a_ts9347_is_the_users_if_given() {
+    let accesses = with("ts9347-letter", &LETTER_OF_TS9347);
+    let mut rom = vec![0; 3_840];
+    rom[2_560 + 650] = 0x81;
+    let rom = with("own-3840.rom", &rom);
+    let output = run(&[
+        &accesses,
+        path("--part"),
+        path("ts9347"),
+        path("--rom"),
+        &rom,
+    ]);
+    let first = printed(&output).lines().next().map(str::to_string);
+    assert_eq!(first, Some("▘  ▝".to_string()), "{}", told(&output));
+}
+
+/// TGS asks for 80 columns, which the part does not have.
+#[test]
+fn a_ts9347_has_no_page_of_80_columns() {
+    let accesses = with("ts9347-eighty", &EIGHTY);
+    let output = run(&[&accesses, path("--part"), path("ts9347")]);
+    assert_fails(&output, 3, "the page cannot be drawn: refusal 7: TGS bit 7");
+    // KRL is the last of the accesses.
+    let first = "1 of 13 accesses refused, the first of them access 13, at byte 24, \
+                 the value 81 to the address 29: refusal 3: a command to execute is not listed";
+    assert!(told(&output).contains(first), "{}", told(&output));
+}
+
+#[test]
+fn the_phase_hides_what_flashes_on_a_ts9347() {
+    let accesses = with("ts9347-page", &to_bytes(&ts9347()));
+    let part = [path("--part"), path("ts9347")];
+    let shown = printed(&run(&[&accesses, part[0], part[1]]));
+    let hidden = printed(&run(&[
+        &accesses,
+        part[0],
+        part[1],
+        path("--phase"),
+        path("1"),
+    ]));
+    let differ = |(line, pair): (usize, (&str, &str))| (pair.0 != pair.1).then_some(line);
+    let pairs = shown.lines().zip(hidden.lines()).enumerate();
+    let lines: Vec<usize> = pairs.filter_map(differ).collect();
+    assert!(!lines.is_empty());
+    // Five lines of text for a row: rows 20 and 21.
+    assert!(
+        lines.iter().all(|line| (100..110).contains(line)),
+        "{lines:?}"
+    );
+}
+
 /// Characters 41 hex in both cells of the first column, by OCT: the attributes are not fitted.
 #[test]
 fn a_board_of_2_blocks_shows_plain_text_in_80_columns() {
@@ -304,7 +387,20 @@ fn a_rom_of_a_wrong_length_is_told() {
     for length in [0, 6_399, 6_401] {
         let rom = with("wrong.rom", &vec![0; length]);
         let output = run(&[&accesses, path("--rom"), &rom]);
-        let message = format!("wrong.rom has {length} bytes, and a ROM has 6400");
+        let message = format!("wrong.rom has {length} bytes, and the ROM of an EF9345 has 6400");
+        assert_fails(&output, 1, &message);
+    }
+    for length in [3_839, 3_841, 6_400] {
+        let rom = with("wrong-3840.rom", &vec![0; length]);
+        let output = run(&[
+            &accesses,
+            path("--part"),
+            path("ts9347"),
+            path("--rom"),
+            &rom,
+        ]);
+        let message =
+            format!("wrong-3840.rom has {length} bytes, and the ROM of a TS9347 has 3840");
         assert_fails(&output, 1, &message);
     }
 }
@@ -327,15 +423,36 @@ fn a_wrong_command_line_is_told() {
         (&["a", "--phase"], "--phase is the last word"),
         (
             &["a", "--blocks", "4"],
-            "a board has 2, 8 or 16 blocks, and not 4",
+            "refusal 12: an EF9345 has 2, 8 or 16 blocks, and not 4",
         ),
         (
             &["a", "--blocks", "258"],
-            "a board has 2, 8 or 16 blocks, and not 258",
+            "refusal 12: an EF9345 has 2, 8 or 16 blocks, and not 258",
         ),
         (
             &["a", "--blocks", "many"],
-            "a board has 2, 8 or 16 blocks, and not many",
+            "refusal 12: an EF9345 has 2, 8 or 16 blocks, and not many",
+        ),
+        (
+            &["a", "--part", "ef9345", "--blocks", "32"],
+            "refusal 12: an EF9345 has 2, 8 or 16 blocks, and not 32",
+        ),
+        (
+            &["a", "--part", "ts9347", "--blocks", "16"],
+            "refusal 12: a TS9347 has 32 blocks, and not 16",
+        ),
+        (
+            &["a", "--blocks", "16", "--part", "ts9347"],
+            "refusal 12: a TS9347 has 32 blocks, and not 16",
+        ),
+        (
+            &["a", "--part", "ts9348", "--blocks", "16"],
+            "refusal 14: the part is ef9345 or ts9347, and not ts9348",
+        ),
+        (&["a", "--part"], "--part is the last word"),
+        (
+            &["a", "--part", "ef9345", "--part", "ts9347"],
+            "--part is given twice",
         ),
         (&["a", "--blocks"], "--blocks is the last word"),
         (
@@ -361,7 +478,7 @@ fn help_is_printed() {
     let output = run(&[path("--help")]);
     assert!(output.status.success());
     for flag in [
-        "--rom", "--png", "--phase", "--blocks", "--plain", "--colour", "--help",
+        "--rom", "--png", "--phase", "--part", "--blocks", "--plain", "--colour", "--help",
     ] {
         assert!(printed(&output).contains(flag));
     }

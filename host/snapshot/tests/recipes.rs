@@ -3,6 +3,8 @@
 
 #[path = "pages/checks.rs"]
 mod checks;
+#[path = "pages/documents.rs"]
+mod documents;
 
 use std::ops::Range;
 
@@ -109,15 +111,15 @@ fn the_second_program_draws_the_same() {
 #[test]
 fn the_page_does_not_depend_on_what_memory_held() {
     let (rom, _) = rom::narrow().expect("the texts are right");
-    checks::the_page_does_not_depend_on_what_memory_held(&rom, &page());
+    checks::the_page_does_not_depend_on_what_memory_held(Board::Sixteen, &rom, &page());
 }
 
 #[test]
 fn the_picture_in_the_documents_is_the_one_drawn() {
-    checks::the_picture_in_the_documents_is_the_one_drawn(panel(), "demo80.png");
+    documents::the_picture_in_the_documents_is_the_one_drawn(panel(), "demo80.png");
 }
 
 #[test]
 fn the_program_writes_the_accesses() {
-    checks::the_program_writes_the_accesses("80", &page());
+    checks::the_program_writes_the_accesses(&["80"], &page());
 }

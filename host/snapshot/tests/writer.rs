@@ -1,8 +1,8 @@
-//! The accesses of the writer of 40 columns, literally and by what they store, and the cells of a
-//! quadrichrome drawing.
+//! The accesses of the writer of 40 columns, literally and by what they store on either part, and the cells
+//! of a quadrichrome drawing.
 
-use binturamis::{Panel, ROM_BYTES};
-use rom::Set;
+use binturamis::{Board, Panel, ROM_BYTES, TS9347_ROM_BYTES};
+use rom::{ts9347, Set};
 use snapshot::access::{of_bytes, to_bytes, Access};
 use snapshot::code::{Code, Look};
 use snapshot::colour::Colour;
@@ -114,6 +114,80 @@ fn the_two_pointers_do_not_disturb_each_other() {
     assert_eq!(memory[256], 0x41);
     assert_eq!(memory[8 * 1024 + 256], 0xFF);
     assert_eq!(memory[32 * 31 + 3], 0xEE);
+}
+
+/// A TS9347 after some writing on a page from a block on, all of it accepted.
+fn ts9347_panel(page: u8, write: impl Fn(&mut Writer)) -> Panel {
+    let mut writer = Writer::of_ts9347(Registers::new(), page);
+    write(&mut writer);
+    let panel = Panel::with_board(Board::ThirtyTwo, &[0; TS9347_ROM_BYTES]);
+    let mut panel = panel.expect("the ROM is the part's");
+    let played = play(&mut panel, &writer.accesses());
+    assert_eq!(played.refused, 0, "{:?}", played.first);
+    panel
+}
+
+/// Rows and columns as on the other part, in each block where a page can begin. The writer goes on to the next
+/// column by itself.
+#[test]
+fn cells_of_a_ts9347_are_stored_where_its_page_has_them() {
+    let look = Look::of(Colour::Yellow, Colour::Blue);
+    for page in (0..32).step_by(2) {
+        let panel = ts9347_panel(page, |writer| {
+            for row in [0, 1, 24] {
+                writer.at(row, 38);
+                for c in [0x41, 0x42, 0x43] {
+                    writer.cell(Code::of_ts9347(ts9347::Set::Goe, c, look));
+                }
+            }
+        });
+        // X 38, 39 and then 0, at Y 0, 8 and 31.
+        let places = [[38, 39, 0], [70, 71, 256], [254, 255, 32 * 31]].concat();
+        for (place, c) in places.into_iter().zip([0x41, 0x42, 0x43].repeat(3)) {
+            let district = usize::from(page / 4 * 4);
+            let block = |further: u8| 1024 * (district + usize::from((page + further) % 4));
+            let code = [0, 1, 2].map(|further| panel.memory()[block(further) + place]);
+            assert_eq!(code, [c, 0x30, 0x34], "block {page}, place {place}");
+        }
+        let stored = panel.memory().iter().filter(|byte| **byte != 0);
+        assert_eq!(stored.count(), 27);
+    }
+}
+
+/// The auxiliary pointer has all its bits in R4 and R5, and the main one stays where it is.
+#[test]
+fn slices_of_a_ts9347_are_stored_in_every_block() {
+    let slices = [1, 2, 3, 4, 5, 6, 7, 8, 9, 10];
+    let look = Look::of(Colour::White, Colour::Black);
+    for block in 0..32 {
+        let panel = ts9347_panel(16, |writer| {
+            writer.at(1, 0);
+            writer.slices(block, 0x4B, &slices);
+            writer.cell(Code::of_ts9347(ts9347::Set::G0, 0x41, look));
+        });
+        let first = 1024 * usize::from(block) + 3651 - 3072;
+        let last = 1024 * usize::from(block) + 3223 - 3072;
+        assert_eq!((panel.memory()[first], panel.memory()[last]), (1, 10));
+        assert_eq!(panel.memory()[16 * 1024 + 256], 0x41);
+    }
+}
+
+#[test]
+fn codes_of_a_ts9347_have_the_bits_of_its_table() {
+    let look = Look::of(Colour::Red, Colour::Cyan);
+    let code = |set, look| Code::of_ts9347(set, 0x21, look);
+    let wanted = |b, a| Code { c: 0x21, b, a };
+    assert_eq!(code(ts9347::Set::G0, look), wanted(0x00, 0x16));
+    assert_eq!(code(ts9347::Set::G0, look.underlined()), wanted(0x10, 0x16));
+    assert_eq!(code(ts9347::Set::G10, look), wanted(0x20, 0x16));
+    assert_eq!(code(ts9347::Set::Goe, look), wanted(0x30, 0x16));
+    assert_eq!(code(ts9347::Set::G0, look.wide()), wanted(0x08, 0x16));
+    assert_eq!(code(ts9347::Set::Goe, look.tall()), wanted(0x32, 0x16));
+    let of_q = |q, look| Code::of_user_set_q(q, 0x21, look);
+    assert_eq!(of_q(0, look), wanted(0xC0, 0x16));
+    assert_eq!(of_q(7, look.tall().flashing()), wanted(0xFA, 0x1E));
+    // Q2 has no bit for double width: it would be Q3.
+    assert_eq!(of_q(2, look.wide()), wanted(0xD0, 0x16));
 }
 
 #[test]

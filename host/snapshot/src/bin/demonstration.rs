@@ -1,5 +1,5 @@
 //! Writes the accesses of a demonstration page to standard output, as `snapshot` and `panel` read them:
-//! of the page of 40 columns, or of the one of 80.
+//! of the page of 40 columns, for an EF9345 or a TS9347, or of the one of 80.
 
 use std::env;
 use std::io::{self, Write};
@@ -8,12 +8,13 @@ use std::process::ExitCode;
 use snapshot::access::to_bytes;
 use snapshot::{demonstration, recipes};
 
-const USAGE: &str = "usage: demonstration 40, or demonstration 80";
+const USAGE: &str = "usage: demonstration 40, demonstration 40 ts9347, or demonstration 80";
 
 fn main() -> ExitCode {
     let words: Vec<String> = env::args().skip(1).collect();
     let page = match words.iter().map(String::as_str).collect::<Vec<_>>()[..] {
         ["40"] => demonstration::page(),
+        ["40", "ts9347"] => demonstration::ts9347(),
         ["80"] => recipes::page(),
         _ => {
             eprintln!("{USAGE}");

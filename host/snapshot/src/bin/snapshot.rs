@@ -6,7 +6,7 @@ use std::io::{self, ErrorKind, Read, Write};
 use std::path::Path;
 use std::process::ExitCode;
 
-use binturamis::{Board, Panel, Width, ROM_BYTES};
+use binturamis::{Board, Panel, Part, Width};
 use snapshot::access::Access;
 use snapshot::arguments::{parse, Arguments, Command, Source, HELP};
 use snapshot::panel::{play, width};
@@ -57,10 +57,11 @@ fn drawn(arguments: &Arguments) -> Result<Raster, Failure> {
     let bytes = recorded(&arguments.accesses)?;
     let accesses = access::of_bytes(&bytes);
     let rom = match &arguments.rom {
-        Some(file) => read_rom(file)?,
+        Some(file) => read_rom(arguments.board, file)?,
         None => demonstration_rom(arguments.board, &accesses)?,
     };
-    let mut panel = Panel::with_board(arguments.board, rom);
+    let panel = Panel::with_board(arguments.board, &rom);
+    let mut panel = panel.map_err(|refusal| of_file(refusal.to_string()))?;
     let played = play(&mut panel, &accesses);
     if bytes.len() % 2 == 1 {
         eprintln!("snapshot: the last byte has no partner and is ignored");
@@ -79,25 +80,32 @@ fn drawn(arguments: &Arguments) -> Result<Raster, Failure> {
     Ok(Raster::of_panel(&panel))
 }
 
-/// The demonstration ROM for the width of the page.
-fn demonstration_rom(board: Board, accesses: &[Access]) -> Result<[u8; ROM_BYTES], Failure> {
-    let built = match width(board, accesses) {
-        Width::Forty => rom::demonstration(),
-        Width::Eighty => rom::narrow(),
+/// The demonstration ROM for the part and the width of the page.
+fn demonstration_rom(board: Board, accesses: &[Access]) -> Result<Vec<u8>, Failure> {
+    let built = match (board.part(), width(board, accesses)) {
+        (Part::Ts9347, _) => rom::ts9347::demonstration().map(|(rom, _)| rom.to_vec()),
+        (Part::Ef9345, Width::Forty) => rom::demonstration().map(|(rom, _)| rom.to_vec()),
+        (Part::Ef9345, Width::Eighty) => rom::narrow().map(|(rom, _)| rom.to_vec()),
     };
-    let (rom, _) = built.map_err(|fault| of_file(fault.to_string()))?;
-    Ok(rom)
+    built.map_err(|fault| of_file(fault.to_string()))
 }
 
-fn read_rom(file: &Path) -> Result<[u8; ROM_BYTES], Failure> {
-    let bytes = read(file)?;
-    let count = bytes.len();
-    bytes.try_into().map_err(|_| {
-        let file = file.display();
-        of_file(format!(
-            "{file} has {count} bytes, and a ROM has {ROM_BYTES}"
-        ))
-    })
+/// A ROM that is as long as the part has it.
+fn read_rom(board: Board, file: &Path) -> Result<Vec<u8>, Failure> {
+    let rom = read(file)?;
+    if rom.len() == board.rom_bytes() {
+        return Ok(rom);
+    }
+    let whose = match board.part() {
+        Part::Ef9345 => "an EF9345",
+        Part::Ts9347 => "a TS9347",
+    };
+    Err(of_file(format!(
+        "{} has {} bytes, and the ROM of {whose} has {}",
+        file.display(),
+        rom.len(),
+        board.rom_bytes()
+    )))
 }
 
 fn recorded(source: &Source) -> Result<Vec<u8>, Failure> {

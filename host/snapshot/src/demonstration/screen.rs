@@ -1,8 +1,9 @@
 //! The page as a surface to write on: text, mosaics and symbols at a row and a column.
 
+use binturamis::Part;
 use rom::Set;
 
-use super::letters::letter;
+use super::letters::code;
 use crate::access::Access;
 use crate::code::{Code, Look};
 use crate::colour::Colour;
@@ -25,6 +26,10 @@ impl Screen {
         screen
     }
 
+    pub fn part(&self) -> Part {
+        self.writer.part()
+    }
+
     pub fn accesses(self) -> Vec<Access> {
         self.writer.accesses()
     }
@@ -38,20 +43,20 @@ impl Screen {
     /// the text stands in this row and in the next.
     pub fn text(&mut self, row: usize, column: usize, look: Look, text: &str) {
         let codes = text.chars().map(|shown| {
-            let (set, code) = letter(shown).expect("the demonstration ROM has the letter");
-            Code::bichrome(set, code, look)
+            let code = code(self.part(), shown, look);
+            code.expect("the demonstration ROM has the letter")
         });
         let codes: Vec<Code> = codes.collect();
         self.codes(row, column, look, &codes);
     }
 
-    /// A mosaic of G10.
+    /// A mosaic of G10, which both parts have under the same bits.
     pub fn mosaic(&mut self, row: usize, column: usize, look: Look, mosaic: u8) {
         let code = Code::bichrome(Set::G10, mosaic, look);
         self.codes(row, column, look, &[code]);
     }
 
-    /// A quadrichrome character: its slices go to a block, and its code to the cell.
+    /// A character with slices of its own: they go to a block, and its code to the cell.
     pub fn symbol(&mut self, row: usize, column: usize, code: Code, block: u8, slices: &[u8; 10]) {
         self.writer.slices(block, code.c, slices);
         self.writer.at(row, column);

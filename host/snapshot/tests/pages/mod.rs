@@ -1,23 +1,25 @@
-//! Both demonstration pages as the library draws them.
+//! The demonstration pages as the library draws them.
 
-use binturamis::{Panel, ROM_BYTES};
+use binturamis::{Board, Panel};
 use snapshot::access::Access;
 use snapshot::panel::play;
 use snapshot::raster::Raster;
 use snapshot::{demonstration, recipes};
 
-/// The page of 40 columns, and the one of 80.
-pub fn rasters() -> [Raster; 2] {
+/// The page of 40 columns, the one of 80, and that of 40 as a TS9347 has it.
+pub fn rasters() -> [Raster; 3] {
     let (wide, _) = rom::demonstration().expect("the texts are right");
     let (narrow, _) = rom::narrow().expect("the texts are right");
+    let (of_ts9347, _) = rom::ts9347::demonstration().expect("the texts are right");
     [
-        raster(wide, &demonstration::page()),
-        raster(narrow, &recipes::page()),
+        raster(Board::Sixteen, &wide, &demonstration::page()),
+        raster(Board::Sixteen, &narrow, &recipes::page()),
+        raster(Board::ThirtyTwo, &of_ts9347, &demonstration::ts9347()),
     ]
 }
 
-fn raster(rom: [u8; ROM_BYTES], accesses: &[Access]) -> Raster {
-    let mut panel = Panel::new(rom);
+fn raster(board: Board, rom: &[u8], accesses: &[Access]) -> Raster {
+    let mut panel = Panel::with_board(board, rom).expect("the ROM is the part's");
     play(&mut panel, accesses);
     panel.draw().expect("the page can be drawn");
     Raster::of_panel(&panel)
