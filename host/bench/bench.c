@@ -15,6 +15,7 @@
 
 #include "board.h"
 #include "prepare.h"
+#include "prepare_ts9347.h"
 #include "prepare_wide.h"
 
 /* A repetition: of a scenario with several panels each takes its turn, and a round is over when all of them have had one. */
@@ -32,11 +33,13 @@ struct scenario {
 
 #define NARROW sizeof(struct panel)
 #define WIDE sizeof(struct wide)
+#define TS9347 sizeof(struct ts9347)
 
 /* The panels of a scenario, one after the other in the size that it has. */
 static union {
     struct panel narrow[PAGES];
     struct wide wide[PAGES];
+    struct ts9347 ts9347[PAGES];
 } panels;
 
 static struct panel *panel_at(const struct scenario *scenario, unsigned long number)
@@ -163,6 +166,43 @@ static void repeat_wide_redraw_2_blocks(struct panel *panel, unsigned long round
     draw_wide_on_board(panel, BINTURAMIS_BOARD_2, BINTURAMIS_ROWS);
 }
 
+static void repeat_ts9347_redraw(struct panel *panel, unsigned long round)
+{
+    (void)round;
+    panel->processor = panel->before;
+    draw_ts9347(panel, BINTURAMIS_ROWS);
+}
+
+static void repeat_ts9347_changed(struct panel *panel, unsigned long round)
+{
+    panel->processor = panel->before;
+    put_ts9347_cell(panel, panel->row, panel->column, panel->pages[round % 2][panel->row][panel->column]);
+}
+
+static void repeat_ts9347_unchanged(struct panel *panel, unsigned long round)
+{
+    (void)round;
+    put_ts9347_cell(panel, panel->row, panel->column, panel->pages[0][panel->row][panel->column]);
+}
+
+static void repeat_ts9347_printed(struct panel *panel, unsigned long round)
+{
+    panel->processor = panel->before;
+    print_ts9347(panel, panel->pages[round % 2][panel->row][panel->column].c);
+}
+
+static void repeat_ts9347_register(struct panel *panel, unsigned long round)
+{
+    put_ts9347_registers(panel, panel->row, panel->column, panel->pages[round % 2][panel->row][panel->column], 20);
+}
+
+static void repeat_ts9347_phase(struct panel *panel, unsigned long round)
+{
+    (void)round;
+    panel->processor = panel->before;
+    turn_ts9347(panel, 1 - panel->phase);
+}
+
 /* The first is the floor. */
 static const struct scenario scenarios[] = {
     {"copy", NARROW, 1, random_cells, prepare_drawn, repeat_copy},
@@ -198,6 +238,14 @@ static const struct scenario scenarios[] = {
     {"margin_80", WIDE, 1, random_codes, prepare_wide_drawn, repeat_wide_margin},
     {"redraw_8_blocks", NARROW, 1, NULL, prepare_8_blocks, repeat_redraw_8_blocks},
     {"redraw_80_2_blocks", WIDE, 1, wide_text, prepare_wide_2_blocks, repeat_wide_redraw_2_blocks},
+    {"redraw_ts9347", TS9347, 1, random_cells, prepare_ts9347_marked, repeat_ts9347_redraw},
+    {"redraw_ts9347_text", TS9347, 1, text, prepare_ts9347_marked, repeat_ts9347_redraw},
+    {"changed_ts9347", TS9347, PAGES, random_cells, prepare_ts9347_drawn, repeat_ts9347_changed},
+    {"changed_ts9347_text", TS9347, PAGES, text, prepare_ts9347_drawn, repeat_ts9347_changed},
+    {"printed_ts9347", TS9347, PAGES, text, prepare_ts9347_printing, repeat_ts9347_printed},
+    {"unchanged_ts9347", TS9347, PAGES, random_cells, prepare_ts9347_changed, repeat_ts9347_unchanged},
+    {"register_ts9347", TS9347, 1, random_cells, prepare_ts9347_drawn, repeat_ts9347_register},
+    {"phase_ts9347", TS9347, PAGES, random_cells, prepare_ts9347_drawn, repeat_ts9347_phase},
 };
 
 static const struct scenario *named(const char *name)

@@ -1,4 +1,4 @@
-/* Panels on the smaller boards, prepared by the operations that a controller has there. */
+/* Panels on the smaller boards of an EF9345, prepared by the operations that a controller has there. */
 #include "board.h"
 #include "prepare_wide.h"
 #include "random.h"
@@ -45,7 +45,7 @@ static void begin(struct panel *panel, uint8_t blocks)
 {
     fill(panel->memory, bytes_of(blocks));
     fill(panel->rom, sizeof panel->rom);
-    expect_accepted("a power-up", binturamis_power_up_board(&panel->processor, blocks));
+    expect_accepted("a power-up", binturamis_power_up_board(&panel->processor, BINTURAMIS_EF9345, blocks));
 }
 
 /* PAT, DOR, ROR and the phase, with which a page can be drawn. */

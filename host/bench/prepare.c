@@ -8,12 +8,16 @@
 #define DOUBLE_HEIGHT 0x02u
 #define DOUBLE_SIZE 0x0Au /* as B: set G0, double height and double width */
 
+unsigned row_y(uint8_t ror, unsigned row)
+{
+    return row == 0 ? 0 : 8 + (ror % 32 - 8 + row - 1) % 24;
+}
+
 /* ROR has Z3, Z2 and Z1 of the first block in bits 7, 6 and 5 and the origin in the others. */
 static struct pointer row_pointer(uint8_t ror, unsigned row)
 {
-    unsigned y = row == 0 ? 0 : 8 + (ror % 32 - 8 + row - 1) % 24;
     struct pointer pointer = {
-        .r6 = (uint8_t)((ror >> 7 & 1) << 7 | (ror >> 6 & 1) << 5 | y),
+        .r6 = (uint8_t)((ror >> 7 & 1) << 7 | (ror >> 6 & 1) << 5 | row_y(ror, row)),
         .r7 = (uint8_t)((ror >> 5 & 1) << 6),
     };
     return pointer;

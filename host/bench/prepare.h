@@ -32,6 +32,9 @@ page_kind text;
 /* Another byte than this one. */
 uint8_t other_byte(uint8_t byte);
 
+/* The Y of a row of the screen, by the origin that ROR has. */
+unsigned row_y(uint8_t ror, unsigned row);
+
 /* Any PAT, DOR, ROR and phase that a page can be drawn with, and the pointers to its rows. */
 void write_registers(struct panel *panel);
 
