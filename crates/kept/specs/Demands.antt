@@ -61,7 +61,7 @@ BoardStays =
     (os : List Operation) (w : World) →
     (run os w .processor .part ≡ w .processor .part) × (run os w .processor .blocks ≡ w .processor .blocks)
 
--- at power-up an unknown part is refused with 14, and before that nothing; a size that is none of the part's with 12; both hand back the 16 block board
+-- at power-up an unknown part is refused with 14, before a size that is none of the part's, with 12; both hand back the 16 block board
 abbrev pub BoardChosen : Type 0
 BoardChosen =
     (part blocks : ℕ) →
