@@ -1,5 +1,6 @@
 pub mod Triples
 pub mod Pointers
+pub mod HowPointers
 pub mod Places
 pub mod Narrow
 pub mod Addresses

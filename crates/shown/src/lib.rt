@@ -2,7 +2,9 @@
 pub mod length;
 
 ghost use mathlib.Core.Path.{_≡_};
+ghost use lib.Dec.{eqb};
 ghost use Rattle.basics.specs.Choice.{pick};
+ghost use Rattle.board.specs.Boards.{partNumber};
 ghost use Rattle.shown.specs.Modes.{isEighty, columnBytes};
 ghost use Rattle.shown.specs.Lengths.{romBytes, pictureBytes};
 ghost use Rattle.shown.specs.Origins.{yorOf, firstBlock};
@@ -14,6 +16,7 @@ use crate::length::TS9347_ROM_BYTES;
 use board::Part;
 
 pub struct Shown {
+    pub part: Part,
     pub tgs: u8,
     pub mat: u8,
     pub pat: u8,
@@ -22,7 +25,16 @@ pub struct Shown {
     pub phase: u8,
     // The board: how many blocks are fitted, and its part.
     pub blocks: u8,
-    pub part: Part,
+}
+
+// Whether a part's page has a Z4, which is DOR 7.
+fn has_z4(part: Part) -> bool
+    ensures { λ r. ⌜ r ≡ eqb (partNumber part) 1 ⌝ }
+{
+    match part {
+        Part::Ef9345 => false,
+        Part::Ts9347 => true,
+    }
 }
 
 impl Shown {
@@ -86,10 +98,7 @@ impl Shown {
         ensures { λ r. ⌜ r ≡ firstBlock self ⌝ }
     {
         let part = self.part;
-        match part {
-            Part::Ef9345 => self.ror / 32 * 2,
-            Part::Ts9347 => self.dor / 128 * 16 + self.ror / 32 * 2,
-        }
+        ((128 <= self.dor) & has_z4(part)) as u8 * 16 + self.ror / 32 * 2
     }
 
     pub fn is_refused_7(self) -> bool
