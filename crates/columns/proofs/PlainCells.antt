@@ -3,16 +3,15 @@
 use Prim.Native.Nat.{ℕ, _+_, _*_, _/_, _%_, _<_, _≤_}
 use mathlib.Core.Path.{_≡_, refl, sym, ap, _∙_}
 use mathlib.Core.Bool.{Bool, true, false, not, _&&_}
-use mathlib.Core.List.{List, [], _∷_}
+use mathlib.Core.List.{List}
 use native.Mathlib.Omega.{arith}
 use lib.Dec.{ltb, eqb}
 use lib.ListN.{length, getD, take, drop, length-drop}
 use lib.Seq.{length-take-le, getD-take, getD-drop, ext-getD}
 use borrow.Author.Tests.{lt-ltb, ne-eqb, ltb-true, eqb-true}
-use Rattle.basics.specs.Bits.{bits, isSet}
+use Rattle.basics.specs.Bits.{isSet}
 use Rattle.basics.specs.Parts.{table}
 use Rattle.basics.proofs.Choice.{and-left, and-right}
-use Rattle.basics.proofs.Few.{eight}
 use Rattle.basics.proofs.Parts.{length-table, table-at}
 use Rattle.board.specs.declared.Part.{Part}
 use Rattle.board.specs.declared.Part.the-variants.{Ef9345, Ts9347}
@@ -20,72 +19,18 @@ use Rattle.shown.specs.declared.Shown.{Shown}
 use Rattle.shown.specs.Lengths.{romBytes}
 use Rattle.cell.specs.declared.kind.Cell.{Cell}
 use Rattle.cell.specs.declared.kind.Cell.the-variants.{Bichrome}
-use Rattle.cell.specs.Cells.{ef9345Set, ts9347Set, setOf, areBothSet, bichromeOf}
+use Rattle.cell.specs.Cells.{areBothSet, bichromeOf}
 use Rattle.cell.specs.HowCells.{lastBichrome}
-use Rattle.cell.proofs.Codes.{ts9347-G0, ts9347-G10, ts9347-Goe, wide-bits, cell-bichrome}
-use Rattle.sources.specs.Sources.{setSource, romSlice, sliceFrom, slicesOf}
+use Rattle.cell.proofs.Codes.{wide-bits, cell-bichrome}
+use Rattle.sources.specs.Sources.{romSlice, sliceFrom, slicesOf}
+use Rattle.sources.specs.HowSources.{setNumber}
+use Rattle.sources.proofs.CellSources.{set-plain, set-fits}
 use Rattle.page.specs.Inputs.{decoded}
 use Rattle.sources.specs.declared.source.Source.{Source}
-use Rattle.sources.specs.declared.source.Source.the-variants.{Rom}
 use Rattle.columns.specs.HowColumns.{putAt}
-use Rattle.columns.specs.HowTens.{isPlain, setNumber, setsFrom, tenOf}
+use Rattle.columns.specs.HowTens.{isPlain, tenOf}
 use Rattle.slices.proofs.Slices.{shown-single}
 use Rattle.columns.proofs.Tens.{ten-whole}
-
--- an EF9345's sets of B7..B4 below 8 are those of its ROM
-ef9345-plain : (shown : Shown) → shown .part ≡ Ef9345 → (high : ℕ) → high < 8 → setSource shown (ef9345Set high) ≡ Rom (setNumber Ef9345 high)
-unfolding ef9345Set
-ef9345-plain shown e =
-    eight (λ high. setSource shown (ef9345Set high) ≡ Rom (setNumber Ef9345 high)) (rw e) (rw e) (rw e) (rw e) (rw e) (rw e) (rw e) (rw e)
-
--- and a TS9347's of B below 128 those of its own
-module _ (shown : Shown) (e : shown .part ≡ Ts9347) (b : ℕ) (l : b < 128) where
-  from-G0 : b / 16 % 4 < 2 → setSource shown (ts9347Set b) ≡ Rom 2
-  from-G0 h = rw (← (ts9347-G0 b l h), e)
-
-  from-G10 : b / 16 % 4 ≡ 2 → setSource shown (ts9347Set b) ≡ Rom 0
-  from-G10 h = rw (← (ts9347-G10 b l h), e)
-
-  from-Goe : b / 16 % 4 ≡ 3 → setSource shown (ts9347Set b) ≡ Rom 1
-  from-Goe h = rw (← (ts9347-Goe b l h), e)
-
-  ts9347-plain : setSource shown (ts9347Set b) ≡ Rom (setNumber Ts9347 (b / 16 % 8))
-  ts9347-plain =
-      eight (λ high. b / 16 % 8 ≡ high → setSource shown (ts9347Set b) ≡ Rom (setNumber Ts9347 high))
-      (λ q. from-G0 (omega (arith, q))) (λ q. from-G0 (omega (arith, q))) (λ q. from-G10 (omega (arith, q))) (λ q. from-Goe (omega (arith, q)))
-      (λ q. from-G0 (omega (arith, q))) (λ q. from-G0 (omega (arith, q))) (λ q. from-G10 (omega (arith, q))) (λ q. from-Goe (omega (arith, q)))
-      (b / 16 % 8) (omega arith) refl
-
-set-plain : (part : Part) (shown : Shown) → shown .part ≡ part → (b : ℕ) → b < 128 → setSource shown (setOf part b) ≡ Rom (setNumber part (b / 16 % 8))
-set-plain Ef9345 shown e b l =
-    let high : bits 4 4 b ≡ b / 16 % 8 = omega (arith, l) in rw high (ef9345-plain shown e (b / 16 % 8) (omega arith))
-set-plain Ts9347 shown e b l = ts9347-plain shown e b l
-
--- the table of the code has those of both parts
-abbrev setsListed : List ℕ
-setsListed = 0 ∷ 0 ∷ 1 ∷ 2 ∷ 3 ∷ 3 ∷ 4 ∷ 4 ∷ 2 ∷ 2 ∷ 0 ∷ 1 ∷ 2 ∷ 2 ∷ 0 ∷ 1 ∷ []
-
-pub sets-small : (part : Part) → setsFrom part ≤ 8
-sets-small Ef9345 = omega arith
-sets-small Ts9347 = omega arith
-
-set-listed : (part : Part) (high : ℕ) → high < 8 → getD setsListed (setsFrom part + high) 0 ≡ setNumber part high
-set-listed Ef9345 = eight (λ high. getD setsListed (0 + high) 0 ≡ setNumber Ef9345 high) refl refl refl refl refl refl refl refl
-set-listed Ts9347 = eight (λ high. getD setsListed (8 + high) 0 ≡ setNumber Ts9347 high) refl refl refl refl refl refl refl refl
-
-pub set-read :
-    (part : Part) (b first place set : ℕ) → first ≡ setsFrom part → place ≡ first + b / 16 % 8 → set ≡ getD setsListed place 0 → set ≡ setNumber part (b / 16 % 8)
-set-read part b first place set p q r =
-    r ∙ ap (λ (i : ℕ). getD setsListed i 0) (q ∙ ap (λ (k : ℕ). k + b / 16 % 8) p) ∙ set-listed part (b / 16 % 8) (omega arith)
-
--- a set is one of the part's
-set-fits : (part : Part) (high : ℕ) → high < 8 → 1280 * setNumber part high + 1280 ≤ romBytes part
-set-fits Ef9345 =
-    eight (λ high. 1280 * setNumber Ef9345 high + 1280 ≤ romBytes Ef9345)
-    (omega arith) (omega arith) (omega arith) (omega arith) (omega arith) (omega arith) (omega arith) (omega arith)
-set-fits Ts9347 =
-    eight (λ high. 1280 * setNumber Ts9347 high + 1280 ≤ romBytes Ts9347)
-    (omega arith) (omega arith) (omega arith) (omega arith) (omega arith) (omega arith) (omega arith) (omega arith)
 
 -- no ROM has more than five
 rom-most : (part : Part) → romBytes part ≤ 6400

@@ -1,7 +1,7 @@
 -- Laws of a cell's ten bytes: which slice each line shows, and of it the half that is shown.
 -- Assumes nothing.
 use Prim.Native.Nat.{ℕ, _+_, _*_, _%_, _<_}
-use mathlib.Core.Path.{_≡_, ap, _∙_}
+use mathlib.Core.Path.{_≡_, refl, ap, _∙_}
 use mathlib.Core.Bool.{Bool, true, false}
 use mathlib.Core.List.{List}
 use native.Mathlib.Omega.{arith}
@@ -14,14 +14,19 @@ use Rattle.address.specs.Addresses.{byteFrom}
 use Rattle.address.specs.Slices.{sliceAddress}
 use Rattle.address.specs.declared.answer.Address.{Address}
 use Rattle.address.specs.declared.answer.Address.the-variants.{Illegal, NotFitted, Fitted}
+use Rattle.board.specs.declared.Part.{Part}
+use Rattle.board.specs.declared.Part.the-variants.{Ef9345, Ts9347}
 use Rattle.shown.specs.declared.Shown.{Shown}
 use Rattle.cell.specs.declared.kind.Cell.{Cell}
+use Rattle.cell.specs.Cells.{areBothSet, bichromeOf, cellOf}
 use Rattle.pixels.specs.Slices.{sliceShown}
 use Rattle.pixels.specs.Pixels.{takenBit}
 use Rattle.pixels.specs.HowPairs.{wideOf}
 use Rattle.sources.specs.Sources.{characterOf, cellSource, keptSlice, romSlice, sliceFrom, slicesOf}
 use Rattle.sources.specs.declared.source.Source.{Source}
 use Rattle.sources.specs.declared.source.Source.the-variants.{Rom, Block}
+use Rattle.page.specs.Halves.{isWide}
+use Rattle.page.specs.Inputs.{decoded}
 use Rattle.slices.specs.HowSlices.{byNumber}
 use Rattle.slices.proofs.Slices.{shown-small}
 use Rattle.columns.specs.HowTens.{doubledOf, tenOf}
@@ -67,3 +72,13 @@ module _ (m rom : List ℕ) (shown : Shown) (cell : Cell) (lower right : Bool) (
   ten-whole m-small rom-small h w =
       table-of ten 10 0 h
       ∙ table-same _ _ 10 (λ n l. rw w (shown-at n l ∙ byte-number _ (slice-small m rom m-small rom-small shown cell (sliceShown cell lower n))))
+
+-- a cell of either part is of double width where its code is
+pub wide-code : (part : Part) (code : List ℕ) → isWide code ≡ wideOf (decoded part code)
+unfolding isWide cellOf bichromeOf
+wide-code Ef9345 code = go (areBothSet (getD code 1 0)) refl
+  where
+    go : (q : Bool) → areBothSet (getD code 1 0) ≡ q → isWide code ≡ wideOf (decoded Ef9345 code)
+    go true e = rw e refl
+    go false e = rw e refl
+wide-code Ts9347 code = refl

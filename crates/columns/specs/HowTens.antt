@@ -8,8 +8,6 @@ use lib.Dec.{ltb, eqb}
 use lib.ListN.{getD}
 use Rattle.basics.specs.Bits.{fromBits}
 use Rattle.basics.specs.Parts.{table}
-use Rattle.board.specs.declared.Part.{Part}
-use Rattle.board.specs.declared.Part.the-variants.{Ef9345, Ts9347}
 use Rattle.shown.specs.declared.Shown.{Shown}
 use Rattle.cell.specs.declared.kind.Cell.{Cell}
 use Rattle.pixels.specs.Slices.{sliceShown}
@@ -34,16 +32,6 @@ tenOf m rom shown cell lower right = table (takenAt m rom shown cell lower right
 -- a cell of a ROM set, of single height and width
 unfoldable pub isPlain : ℕ → Bool
 isPlain b = ltb b 128 && (eqb (b / 2 % 2) 0 && eqb (b / 8 % 2) 0)
-
--- the ROM sets by B6..B4
-abbrev pub setNumber : Part → ℕ → ℕ
-setNumber Ef9345 high = getD (0 ∷ 0 ∷ 1 ∷ 2 ∷ 3 ∷ 3 ∷ 4 ∷ 4 ∷ []) high 0
-setNumber Ts9347 high = getD (2 ∷ 2 ∷ 0 ∷ 1 ∷ 2 ∷ 2 ∷ 0 ∷ 1 ∷ []) high 0
-
--- where the code's table of them has those of a part
-abbrev pub setsFrom : Part → ℕ
-setsFrom Ef9345 = 0
-setsFrom Ts9347 = 8
 
 -- the ten bytes of cell x, and those of every cell
 abbrev pub tenAt : List ℕ → List ℕ → Shown → List (List ℕ) → List Bool → List Bool → ℕ → List ℕ

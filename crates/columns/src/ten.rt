@@ -5,28 +5,17 @@ ghost use lib.ListN.{length};
 ghost use Rattle.basics.specs.Parts.{table};
 ghost use Rattle.board.specs.Boards.{bytesOf};
 ghost use Rattle.shown.specs.Lengths.{romBytes};
-ghost use Rattle.pixels.specs.HowPairs.{wideOf};
 ghost use Rattle.page.specs.Inputs.{decoded};
 ghost use Rattle.columns.specs.HowColumns.{putAt};
 ghost use Rattle.columns.specs.HowTens.{doubledOf, tenOf, tensOf};
 use crate::column::put_column;
 use crate::plain::is_plain;
 use crate::plain::rom_start;
-use cell::decode::decode;
-use cell::kind::Cell;
+use page::code::is_wide;
 use pixels::width::doubled;
 use shown::Shown;
 use slices::slice::shown_slices;
 use sources::source::slices_of;
-
-pub fn is_wide(cell: Cell) -> bool
-    ensures { λ r. ⌜ r ≡ wideOf cell ⌝ }
-{
-    match cell {
-        Cell::Bichrome(b) => b.wide,
-        Cell::Quadrichrome(_) => false,
-    }
-}
 
 // Of each of ten slices the half that is shown.
 pub fn doubled_slices(right: bool, slices: [u8; 10]) -> [u8; 10]
@@ -43,15 +32,16 @@ pub fn ten_of(
     memory: &[u8],
     rom: &[u8],
     shown: Shown,
-    cell: Cell,
+    code: [u8; 3],
     lower: bool,
     right: bool,
 ) -> [u8; 10]
     requires { ⌜ (length (now memory) ≡ bytesOf (shown .blocks)) × (length (now rom) ≡ romBytes (shown .part)) ⌝ }
-    ensures { λ r. ⌜ r ≡ tenOf (now (memory .entry)) (now (rom .entry)) shown cell lower right ⌝ }
+    ensures { λ r. ⌜ r ≡ tenOf (now (memory .entry)) (now (rom .entry)) shown (decoded (shown .part) code) lower right ⌝ }
 {
-    let slices = shown_slices(cell, lower, slices_of(memory, rom, shown, cell));
-    if is_wide(cell) {
+    let part = shown.part;
+    let slices = shown_slices(part, code, lower, slices_of(memory, rom, shown, code));
+    if is_wide(code) {
         return doubled_slices(right, slices);
     }
     slices
@@ -77,7 +67,7 @@ fn put_ten(
         put_column(tens, x, &rom[first..first + 10]);
         return;
     }
-    let ten = ten_of(memory, rom, shown, decode(part, code), lower, right);
+    let ten = ten_of(memory, rom, shown, code, lower, right);
     put_column(tens, x, &ten);
 }
 

@@ -15,21 +15,12 @@ ghost use Rattle.page.specs.HowHalves.{Compared, rightIn, goesOnAt, nextLowerIn
 use address::row::row_y;
 use board::Part;
 use page::code::is_fitted;
+use page::code::is_wide;
 use page::stretch::compared_by;
 use page::stretch::goes_on_at;
 use page::stretch::some_on;
 use page::stretch::some_wide;
 use shown::Shown;
-
-// Bichrome, with B3.
-pub fn is_wide(code: [u8; 3]) -> bool
-    ensures { λ r. ⌜ r ≡ isWide code ⌝ }
-{
-    if code[1] < 192 {
-        return code[1] / 8 % 2 == 1;
-    }
-    false
-}
 
 pub fn same_code(a: [u8; 3], b: [u8; 3]) -> bool
     ensures { λ r. ⌜ r ≡ sameCode a b ⌝ }

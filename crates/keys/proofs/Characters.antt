@@ -10,7 +10,6 @@ use native.Mathlib.Omega.{arith}
 use lib.Dec.{eqb, leb}
 use lib.ListN.{getD}
 use borrow.Author.Tests.{eq-eqb, ne-eqb, eqb-true, le-leb}
-use Rattle.basics.specs.Choice.{pick}
 use Rattle.basics.specs.Bits.{bits}
 use Rattle.basics.specs.Below.{anyBelow}
 use Rattle.basics.proofs.Choice.{bool-cases, lt-or-le, and-left, and-right, and-both}
@@ -26,16 +25,13 @@ use Rattle.address.proofs.Places.{place-injective}
 use Rattle.shown.specs.declared.Shown.{Shown}
 use Rattle.board.specs.declared.Part.{Part}
 use Rattle.board.specs.declared.Part.the-variants.{Ef9345, Ts9347}
-use Rattle.cell.specs.Cells.{ef9345Set, ts9347Set, setOf, bichromeOf, quadrichromeOf, isQuadrichrome, cellOf}
-use Rattle.cell.specs.HowCells.{lastBichrome}
-use Rattle.cell.specs.declared.kind.Set.the-variants.{UserG0, UserG1}
-use Rattle.cell.specs.declared.kind.Cell.the-variants.{Bichrome, Quadrichrome}
-use Rattle.cell.proofs.Codes.{set-UserG0, set-UserG1, ts9347-UserG0, ts9347-UserG1, ts9347-Q, cell-bichrome, cell-quadrichrome}
-use Rattle.sources.specs.Sources.{setSource, cellSource, characterOf}
+use Rattle.cell.specs.Cells.{ef9345Set, ts9347Set, cellOf}
+use Rattle.sources.specs.Sources.{setSource, cellSource}
 use Rattle.sources.specs.declared.source.Source.{Source}
 use Rattle.sources.specs.declared.source.Source.the-variants.{Rom, Block}
 use Rattle.reading.specs.Lists.{sourceHolds, cellHolds}
 use Rattle.sources.proofs.SliceSources.{Fitting, source-fitting}
+use Rattle.sources.proofs.CellSources.{of-set, source-user0, source-user1, source-quad, character}
 use Rattle.keys.specs.declared.key.Keys.{Keys}
 use Rattle.keys.specs.HowKeys.{keyIf, isOne, someBlock, AllFitted, quadKey, keysOf, keysHigh, fromBlock, keyed}
 use Rattle.keys.proofs.Tests.{together}
@@ -86,63 +82,15 @@ abbrev oneIs : List ℕ → Source → Bool
 oneIs blocks (Rom set) = false
 oneIs blocks (Block b) = isOne blocks b
 
--- the source of a cell, by B, of either part
-module _ (shown : Shown) (c b a : ℕ) (small : b < 256) where
-  abbrev sourceOf : Part → Source
-  sourceOf part = cellSource shown (cellOf part c b a)
-
-  bichrome : (part : Part) → b ≤ lastBichrome part → sourceOf part ≡ setSource shown (setOf part b)
-  unfolding bichromeOf
-  bichrome part l = ap (cellSource shown) (sym (cell-bichrome part c b a small l))
-
-  -- below 192 each part has a bichrome cell
-  of-set : (part : Part) → b < 192 → sourceOf part ≡ setSource shown (setOf part b)
-  unfolding lastBichrome
-  of-set Ef9345 l = bichrome Ef9345 (omega arith)
-  of-set Ts9347 l = bichrome Ts9347 (omega arith)
-
-  source-rom : (blocks : List ℕ) (part : Part) → b < 128 → oneIs blocks (sourceOf part) ≡ false
-  unfolding ef9345Set ts9347Set
-  source-rom blocks Ef9345 h =
-      ap (oneIs blocks) (of-set Ef9345 (omega arith))
-      ∙ agree-test (λ high. oneIs blocks (setSource shown (ef9345Set high))) (λ high. false) 8 tt (bits 4 4 b) (omega arith)
-  source-rom blocks Ts9347 h =
-      ap (oneIs blocks) (of-set Ts9347 (omega arith))
-      ∙ agree-test (λ low. oneIs blocks (setSource shown (ts9347Set low))) (λ low. false) 128 tt b h
-
-  source-user0 : (part : Part) → 128 ≤ b → b < 160 → sourceOf part ≡ Block (shown .dor % 16)
-  source-user0 part h l = of-set part (omega arith) ∙ ap (setSource shown) (sym (named part)) ∙ ap Block (omega arith)
-    where
-      named : (part : Part) → UserG0 ≡ setOf part b
-      named Ef9345 = set-UserG0 (bits 4 4 b) (omega arith) (omega arith)
-      named Ts9347 = ts9347-UserG0 b h l
-
-  source-user1 : (part : Part) → 160 ≤ b → b < 192 → sourceOf part ≡ Block (2 * (shown .dor / 16 % 8) + b / 16 % 2)
-  source-user1 part h l =
-      let e : 2 * bits 4 3 (shown .dor) + b / 16 % 2 % 2 ≡ 2 * (shown .dor / 16 % 8) + b / 16 % 2 = omega arith in
-      of-set part l ∙ ap (setSource shown) (sym (named part)) ∙ ap Block e
-    where
-      named : (part : Part) → UserG1 (b / 16 % 2) ≡ setOf part b
-      named Ef9345 = let e : b / 16 % 2 ≡ bits 4 4 b % 2 = omega arith in ap UserG1 e ∙ set-UserG1 (bits 4 4 b) (omega arith)
-      named Ts9347 = ts9347-UserG1 b h l
-
-  -- quadrichrome of the one, of a set Q of the other: the same block
-  source-quad : (part : Part) → 192 ≤ b → sourceOf part ≡ Block (8 * (shown .dor / 128 % 2) + b / 8 % 8)
-  unfolding lastBichrome quadrichromeOf
-  source-quad Ef9345 h =
-      let e : 8 * (shown .dor / 128 % 2) + bits 3 3 b % 8 ≡ 8 * (shown .dor / 128 % 2) + b / 8 % 8 = omega arith in
-      ap (cellSource shown) (sym (cell-quadrichrome Ef9345 c b a small (omega arith))) ∙ ap Block e
-  source-quad Ts9347 h =
-      let e : 8 * (shown .dor / 128 % 2) + b / 8 % 8 % 8 ≡ 8 * (shown .dor / 128 % 2) + b / 8 % 8 = omega arith in
-      bichrome Ts9347 (omega arith) ∙ ap (setSource shown) (sym (ts9347-Q b h small)) ∙ ap Block e
-
-character : (part : Part) (c b a : ℕ) → characterOf (cellOf part c b a) ≡ c
-unfolding cellOf bichromeOf quadrichromeOf
-character part c b a = go (isQuadrichrome part b)
-  where
-    go : (q : Bool) → characterOf (pick q (Quadrichrome (quadrichromeOf c b a)) (Bichrome (bichromeOf part c b a))) ≡ c
-    go true = refl
-    go false = refl
+-- a set of the ROM is none of the blocks
+source-rom : (shown : Shown) (c b a : ℕ) → b < 256 → (blocks : List ℕ) (part : Part) → b < 128 → oneIs blocks (cellSource shown (cellOf part c b a)) ≡ false
+unfolding ef9345Set ts9347Set
+source-rom shown c b a small blocks Ef9345 h =
+    ap (oneIs blocks) (of-set shown c b a small Ef9345 (omega arith))
+    ∙ agree-test (λ high. oneIs blocks (setSource shown (ef9345Set high))) (λ high. false) 8 tt (bits 4 4 b) (omega arith)
+source-rom shown c b a small blocks Ts9347 h =
+    ap (oneIs blocks) (of-set shown c b a small Ts9347 (omega arith))
+    ∙ agree-test (λ low. oneIs blocks (setSource shown (ts9347Set low))) (λ low. false) 128 tt b h
 
 -- a key of 255 is met by no part of a byte
 key-met : (fits : Bool) (v key : ℕ) → v < 255 → eqb v (keyIf fits key) ≡ (fits && eqb v key)

@@ -1,17 +1,16 @@
--- Laws of a row's code bytes: where they are in memory, that those which are not fitted are 0 as memory has them, and the attributes of a bichrome cell.
+-- Laws of a row's code bytes: where they are in memory, and that those which are not fitted are 0 as memory has them.
 -- Assumes nothing.
 use Prim.Native.Nat.{ℕ, _+_, _*_, _-_, _<_, _≤_}
-use mathlib.Core.Path.{_≡_, sym, ap, _∙_}
-use mathlib.Core.Bool.{true, false, not, _&&_}
+use mathlib.Core.Path.{_≡_, sym, _∙_}
+use mathlib.Core.Bool.{true, false}
 use mathlib.Core.List.{List, [], _∷_}
 use mathlib.Core.Logic.{⊎-elim}
 use native.Mathlib.Omega.{arith}
 use lib.Dec.{ltb}
 use lib.ListN.{length, List·getD-eq-default}
-use borrow.Author.Tests.{lt-ltb, le-ltb, le-leb, lt-leb, ltb-true, ltb-false}
+use borrow.Author.Tests.{lt-ltb, le-ltb, ltb-true, ltb-false}
 use Rattle.basics.specs.Choice.{pick}
 use Rattle.basics.proofs.Choice.{lt-or-le, eq-or-ne}
-use Rattle.basics.specs.Bits.{isSet}
 use Rattle.basics.specs.Parts.{table}
 use Rattle.basics.proofs.Parts.{table-same}
 use Rattle.address.specs.Addresses.{byteFrom}
@@ -21,8 +20,6 @@ use Rattle.address.specs.Triples.{onPage}
 use Rattle.address.proofs.Addresses.{byte-kept}
 use Rattle.address.proofs.Laws.{place-left, place-service, place-right, facts-page, row-facts}
 use Rattle.address.proofs.Places.{place-fits, place-block, place-within}
-use Rattle.cell.specs.Cells.{areBothSet}
-use Rattle.cell.proofs.Codes.{top-two}
 use Rattle.address.specs.Rows.{rowY}
 use Rattle.shown.specs.declared.Shown.{Shown}
 use Rattle.shown.specs.Origins.{yorOf, firstBlock}
@@ -63,14 +60,6 @@ module _ (y left right x at : ℕ) (el : left ≡ placeOf 0 y 0) (er : right ≡
 -- a column of a row is in the first block
 pub start-small : (x y p : ℕ) → p ≡ placeOf x y 0 → x < 40 → y < 32 → p < 65536
 start-small x y p e hx hy = omega (arith, e, place-fits 1 x y 0 hx hy (omega arith))
-
--- an attribute that goes with B bits 7 and 6 not both set, by its bit of B
-module _ (b k : ℕ) where
-  pub bichrome-bit : b < 192 → isSet k b ≡ (not (areBothSet b) && isSet k b)
-  bichrome-bit h = rw (top-two b (omega arith) ∙ lt-leb 192 b h)
-
-  pub quadrichrome-bit : 192 ≤ b → b < 256 → false ≡ (not (areBothSet b) && isSet k b)
-  quadrichrome-bit h l = rw (top-two b l ∙ le-leb 192 b h)
 
 -- a byte past the end of memory
 pub bare-byte : (m : List ℕ) (z y x k : ℕ) → onPage x y ≡ true → length m ≤ 1024 * blockOf z k → byteAt m (placeOf x y (blockOf z k)) ≡ 0

@@ -9,6 +9,7 @@ ghost use Rattle.basics.specs.Parts.{table};
 ghost use Rattle.board.specs.Boards.{bytesOf};
 ghost use Rattle.address.specs.Places.{blockOf, byteAt};
 ghost use Rattle.page.specs.Codes.{rowBuffer};
+ghost use Rattle.page.specs.Halves.{isWide};
 ghost use Rattle.page.specs.HowCodes.{codeOf, isFitted, Has};
 use crate::stretch::start;
 use address::byte::byte_or_zero;
@@ -22,6 +23,13 @@ pub fn is_fitted(shown: Shown, k: u8) -> bool
     ensures { λ r. ⌜ r ≡ isFitted shown k ⌝ }
 {
     block(shown.first_block(), k) < shown.blocks
+}
+
+// A cell of double width, of either part: B from 192 on never has it.
+pub fn is_wide(code: [u8; 3]) -> bool
+    ensures { λ r. ⌜ r ≡ isWide code ⌝ }
+{
+    (code[1] < 192) & (code[1] / 8 % 2 == 1)
 }
 
 // C, B and A at one place of their blocks.

@@ -1,11 +1,12 @@
 // The slice that each of the ten lines of a cell shows.
 ghost use mathlib.Core.Path.{_≡_};
 ghost use mathlib.Core.Bool.{true, false};
+ghost use Prim.Native.Nat.{_<_};
+ghost use lib.ListN.{getD};
+ghost use Rattle.cell.specs.Cells.{setOf, alphanumericOf, cellOf};
 ghost use Rattle.pixels.specs.Slices.{sliceShown};
-ghost use Rattle.slices.specs.HowSlices.{twentyAt, byNumber};
-use cell::decode::is_alphanumeric;
-use cell::kind::Cell;
-use cell::kind::Resolution;
+ghost use Rattle.slices.specs.HowSlices.{twentyAt, byNumber, halfOf};
+use board::Part;
 
 // An alphanumeric's twenty lines give slice 0 three times, 1 to 8 twice and 9 once: its upper and its lower half.
 fn alphanumeric_upper(s: [u8; 10]) -> [u8; 10]
@@ -49,24 +50,37 @@ pub fn tall_slices(alphanumeric: bool, lower: bool, s: [u8; 10]) -> [u8; 10]
     other_upper(s)
 }
 
-// The slice that each line of a cell shows.
-pub fn shown_slices(cell: Cell, lower: bool, slices: [u8; 10]) -> [u8; 10]
-    ensures { λ r. ⌜ r ≡ byNumber slices (sliceShown cell lower) ⌝ }
+// Whether B below 192 names an alphanumeric set.
+fn is_alphanumeric_at(part: Part, b: u8) -> bool
+    requires { ⌜ b < 192 ⌝ }
+    ensures { λ r. ⌜ r ≡ alphanumericOf (setOf part b) ⌝ }
 {
-    match cell {
-        Cell::Bichrome(b) => {
-            if b.tall {
-                let set = b.set;
-                return tall_slices(is_alphanumeric(set), lower, slices);
-            }
-            slices
-        }
-        Cell::Quadrichrome(q) => {
-            let resolution = q.resolution;
-            match resolution {
-                Resolution::High => slices,
-                Resolution::Low(k) => tall_slices(false, k % 2 == 1, slices),
-            }
-        }
+    match part {
+        Part::Ef9345 => b / 32 % 4 != 1,
+        Part::Ts9347 => b / 32 % 2 == 0,
     }
+}
+
+// Which half of twenty lines a cell shows whose B is from 192 on: of an EF9345 that of its low resolution, of a TS9347 that of its double height.
+fn half_of(part: Part, b: u8, lower: bool) -> bool
+    ensures { λ r. ⌜ r ≡ halfOf part b lower ⌝ }
+{
+    match part {
+        Part::Ef9345 => b / 4 % 2 == 1,
+        Part::Ts9347 => lower,
+    }
+}
+
+// By B alone: bit 1 doubles the lines of every cell, of whichever type.
+pub fn shown_slices(part: Part, code: [u8; 3], lower: bool, slices: [u8; 10]) -> [u8; 10]
+    ensures { λ r. ⌜ r ≡ byNumber slices (sliceShown (cellOf part (getD code 0 0) (getD code 1 0) (getD code 2 0)) lower) ⌝ }
+{
+    let b = code[1];
+    if b / 2 % 2 == 0 {
+        return slices;
+    }
+    if b < 192 {
+        return tall_slices(is_alphanumeric_at(part, b), lower, slices);
+    }
+    tall_slices(false, half_of(part, b, lower), slices)
 }

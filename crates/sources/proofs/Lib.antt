@@ -1,1 +1,2 @@
 pub mod SliceSources
+pub mod CellSources

@@ -1,19 +1,19 @@
 // Where a cell's slices come from, and the ten of them.
 ghost use mathlib.Core.Path.{_≡_};
-ghost use Prim.Native.Nat.{_+_, _*_, _<_, _≤_};
-ghost use lib.ListN.{length};
+ghost use Prim.Native.Nat.{_+_, _*_, _/_, _%_, _<_, _≤_};
+ghost use lib.ListN.{length, getD};
 ghost use Rattle.basics.specs.Parts.{table};
 ghost use Rattle.board.specs.Boards.{bytesOf};
 ghost use Rattle.address.specs.Places.{placeAt, byteAt};
 ghost use Rattle.address.specs.Slices.{sliceAt};
 ghost use Rattle.shown.specs.Lengths.{romBytes};
-ghost use Rattle.sources.specs.Sources.{forPart, setSource, cellSource, characterOf, keptSlice, romSlice, slicesOf};
+ghost use Rattle.cell.specs.Cells.{cellOf};
+ghost use Rattle.sources.specs.Sources.{cellSource, keptSlice, romSlice, slicesOf};
+ghost use Rattle.sources.specs.HowSources.{setsFrom, setNumber, userBlock};
 use address::byte::byte_or_zero;
 use address::place::place_at;
 use address::triple::is_legal_y;
 use board::Part;
-use cell::kind::Cell;
-use cell::kind::Set;
 use shown::Shown;
 
 pub enum Source {
@@ -23,53 +23,55 @@ pub enum Source {
     Block(u8),
 }
 
-// One number of an EF9345, another of a TS9347.
-fn for_part(part: Part, ef9345: u8, ts9347: u8) -> u8
-    ensures { λ r. ⌜ r ≡ forPart part ef9345 ts9347 ⌝ }
+// The ROM sets that B6..B4 name: of an EF9345 in the order G0, G10, G11, G20, G21, and then of a TS9347 in the order G10, GOE, G0.
+const SETS: [u8; 16] = [0, 0, 1, 2, 3, 3, 4, 4, 2, 2, 0, 1, 2, 2, 0, 1];
+
+fn index(high: u8) -> usize
+    ensures { λ r. ⌜ r ≡ high ⌝ }
+{
+    high as usize
+}
+
+// Where the table has a part's sets.
+fn sets_of(part: Part) -> u8
+    ensures { λ r. ⌜ r ≡ setsFrom part ⌝ }
 {
     match part {
-        Part::Ef9345 => ef9345,
-        Part::Ts9347 => ts9347,
+        Part::Ef9345 => 0,
+        Part::Ts9347 => 8,
     }
 }
 
-// The source of a bichrome cell's set. The ROM has an EF9345's sets in the order G0, G10, G11, G20, G21, a TS9347's in the order G10, GOE, G0.
-pub fn set_source(set: Set, shown: Shown) -> Source
-    ensures { λ r. ⌜ r ≡ setSource shown set ⌝ }
+// The ROM set of B below 128, by its place in the ROM.
+pub fn rom_set(part: Part, b: u8) -> u8
+    ensures { λ r. ⌜ r ≡ setNumber part (b / 16 % 8) ⌝ }
 {
-    let part = shown.part;
-    match set {
-        Set::G0 => Source::Rom(for_part(part, 0, 2)),
-        Set::G10 => Source::Rom(for_part(part, 1, 0)),
-        Set::G11 => Source::Rom(for_part(part, 2, 0)),
-        Set::G20 => Source::Rom(for_part(part, 3, 0)),
-        Set::G21 => Source::Rom(for_part(part, 4, 0)),
-        Set::Goe => Source::Rom(for_part(part, 0, 1)),
-        Set::UserG0 => Source::Block(shown.dor % 16),
-        Set::UserG1(s) => Source::Block(shown.dor / 16 % 8 * 2 + s % 2),
-        Set::Q(n) => Source::Block(shown.dor / 128 * 8 + n % 8),
-    }
+    SETS[index(sets_of(part) + b / 16 % 8)]
 }
 
-pub fn cell_source(cell: Cell, shown: Shown) -> Source
-    ensures { λ r. ⌜ r ≡ cellSource shown cell ⌝ }
+// The block of B from 128 on, in which the parts do not differ: that of user G'0, of user G'1 or of user Q.
+fn user_block(dor: u8, b: u8) -> u8
+    ensures { λ r. ⌜ r ≡ userBlock dor b ⌝ }
 {
-    match cell {
-        Cell::Bichrome(b) => {
-            let set = b.set;
-            set_source(set, shown)
-        }
-        Cell::Quadrichrome(q) => Source::Block(shown.dor / 128 * 8 + q.block % 8),
+    if b < 160 {
+        return dor % 16;
     }
+    if b < 192 {
+        return dor / 16 % 8 * 2 + b / 16 % 2;
+    }
+    dor / 128 * 8 + b / 8 % 8
 }
 
-pub fn character(cell: Cell) -> u8
-    ensures { λ r. ⌜ r ≡ characterOf cell ⌝ }
+// The source of the cell of a code: by B and DOR alone.
+pub fn source_of(shown: Shown, code: [u8; 3]) -> Source
+    ensures { λ r. ⌜ r ≡ cellSource shown (cellOf (shown .part) (getD code 0 0) (getD code 1 0) (getD code 2 0)) ⌝ }
 {
-    match cell {
-        Cell::Bichrome(b) => b.character,
-        Cell::Quadrichrome(q) => q.character,
+    let b = code[1];
+    if b < 128 {
+        let part = shown.part;
+        return Source::Rom(rom_set(part, b));
     }
+    Source::Block(user_block(shown.dor, b))
 }
 
 // The ten slices of a character in private memory, where they are read.
@@ -126,12 +128,13 @@ pub fn rom_slices(rom: &[u8], c: u8, set: u8) -> [u8; 10]
     slices
 }
 
-pub fn slices_of(memory: &[u8], rom: &[u8], shown: Shown, cell: Cell) -> [u8; 10]
+// The ten slices of the cell of a code.
+pub fn slices_of(memory: &[u8], rom: &[u8], shown: Shown, code: [u8; 3]) -> [u8; 10]
     requires { ⌜ (length (now memory) ≡ bytesOf (shown .blocks)) × (length (now rom) ≡ romBytes (shown .part)) ⌝ }
-    ensures { λ r. ⌜ r ≡ table (slicesOf (now (memory .entry)) (now (rom .entry)) shown cell) 10 ⌝ }
+    ensures { λ r. ⌜ r ≡ table (slicesOf (now (memory .entry)) (now (rom .entry)) shown (cellOf (shown .part) (getD code 0 0) (getD code 1 0) (getD code 2 0))) 10 ⌝ }
 {
-    let c = character(cell);
-    let source = cell_source(cell, shown);
+    let c = code[0];
+    let source = source_of(shown, code);
     match source {
         Source::Rom(set) => rom_slices(rom, c, set),
         Source::Block(z) => kept_slices(memory, shown.blocks, c, z),

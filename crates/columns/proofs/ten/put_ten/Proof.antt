@@ -1,7 +1,6 @@
 use Prim.Native.Nat.{ℕ, _+_, _-_}
 use mathlib.Core.Path.{_≡_, sym, ap, _∙_}
 use lib.ListN.{getD, take, drop}
-use Rattle.cell.specs.declared.kind.Cell.{Cell}
 use Rattle.page.specs.Inputs.{decoded}
 use Rattle.columns.specs.HowTens.{tenOf}
 use native.Mathlib.Omega.{arith}
@@ -62,9 +61,6 @@ returns c = let p = c .before .before in
     (λ n. omega (arith, k .before .shared-slice-known .given n)) (λ n. omega (arith, k .shared-slice-known2 .given n)))
     (ten-long (a .memory .now) (a .rom .now) (a .shown) (decoded (a .shown .part) (a .t6)) (a .lower) (a .right))
 
-decode-requires : tie.Need-decode-requires
-decode-requires c κs = search needs
-
 ten-of-requires : tie.Need-ten-of-requires
 ten-of-requires c κs = search needs
 
@@ -80,11 +76,11 @@ same-length-2 c = search needs
 returns-2 : tie.Need-returns-2
 returns-2 c = let p = c .before .before in
     let t = p .before .before .before in
-    let s = t .before .before .before .before .before .before .before in
+    let s = t .before .before .before .before .before .before in
     let a = s .args in
     put-plain (a .tens .now) (p .put-column2 .last .0) (t .ten-of .result)
     (tenOf (a .memory .now) (a .rom .now) (a .shown) (decoded (a .shown .part) (a .t6)) (a .lower) (a .right)) (a .x) (p .put-column2 .ensures)
-    (t .ten-of .ensures ∙ ap (λ (z : Cell). tenOf (a .memory .now) (a .rom .now) (a .shown) z (a .lower) (a .right)) (t .before .decode .ensures))
+    (t .ten-of .ensures)
     (ten-long (a .memory .now) (a .rom .now) (a .shown) (decoded (a .shown .part) (a .t6)) (a .lower) (a .right))
 
 pub put-ten-spec : {M : Type 1} → statement M
@@ -103,7 +99,6 @@ put-ten-spec =
     put-column-requires
     same-length
     returns
-    decode-requires
     ten-of-requires
     slice-aggregate-put-column
     put-column-requires-2

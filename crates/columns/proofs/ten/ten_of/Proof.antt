@@ -1,5 +1,6 @@
 use native.Mathlib.Omega.{arith}
-use Rattle.columns.proofs.Tens.{ten-wide, ten-whole}
+use Rattle.page.specs.Inputs.{decoded}
+use Rattle.columns.proofs.Tens.{ten-wide, ten-whole, wide-code}
 use mathlib.Core.Path.{sym, _∙_}
 use borrow.Author.Needs.{needs}
 use Rattle.columns.proofs.ten.ten_of.Statement.{statement}
@@ -18,23 +19,27 @@ doubled-slices-requires : tie.Need-doubled-slices-requires
 doubled-slices-requires c κs = search needs
 
 returns : tie.Need-returns
-returns c = let w = c .before .before in
+returns c =
+    let w = c .before .before in
     let s = w .before in
     let k = s .before in
-    let a = c .before .before .before .before .before .before .before .args in
+    let a = k .before .before .before .args in
+    let cell = decoded (a .shown .part) (a .code) in
     c .doubled-slices .ensures
-    ∙ ten-wide (a .memory .now) (a .rom .now) (a .shown) (a .cell) (a .lower) (a .right) _ _ (s .shown-slices .ensures) (k .slices-of .ensures) (sym (w .is-wide .ensures) ∙ c .before .if1 .taken)
+    ∙ ten-wide (a .memory .now) (a .rom .now) (a .shown) cell (a .lower) (a .right) _ _ (s .shown-slices .ensures) (k .slices-of .ensures) (sym (w .is-wide .ensures ∙ wide-code (a .shown .part) (a .code)) ∙ c .before .if1 .taken)
 
 returns-2 : tie.Need-returns-2
-returns-2 c = let w = c .before in
+returns-2 c =
+    let w = c .before in
     let s = w .before in
     let k = s .before in
     let r = k .before in
     let m = r .before in
     let a = m .before .args in
-    ten-whole (a .memory .now) (a .rom .now) (a .shown) (a .cell) (a .lower) (a .right) _ _ (s .shown-slices .ensures) (k .slices-of .ensures)
+    let cell = decoded (a .shown .part) (a .code) in
+    ten-whole (a .memory .now) (a .rom .now) (a .shown) cell (a .lower) (a .right) _ _ (s .shown-slices .ensures) (k .slices-of .ensures)
     (λ i. omega (arith, m .shared-slice-known .given i)) (λ i. omega (arith, r .shared-slice-known2 .given i)) (search needs)
-    (sym (w .is-wide .ensures) ∙ c .if1 .left)
+    (sym (w .is-wide .ensures ∙ wide-code (a .shown .part) (a .code)) ∙ c .if1 .left)
 
 pub ten-of-spec : {M : Type 1} → statement M
 ten-of-spec =

@@ -1,60 +1,60 @@
-use Rattle.slices.proofs.Slices.{shown-tall, shown-single, shown-low, shown-high}
-use mathlib.Core.Path.{_∙_}
+use Prim.Native.Nat.{_/_, _%_}
+use native.Mathlib.Omega.{arith}
+use lib.ListN.{getD}
+use borrow.Author.Tests.{eq-eqb}
+use mir.Syntax.{w8}
+use mir.Val.{Fits}
+use Rattle.slices.proofs.Codes.{code-single, code-tall, code-half}
 use borrow.Author.Needs.{needs}
 use Rattle.slices.proofs.slice.shown_slices.Statement.{statement}
 use Rattle.slices.proofs.slice.shown_slices.Tie as tie
 
-enum-known-cell : tie.Need-enum-known-cell
-enum-known-cell c = search needs
+array-read-b : tie.Need-array-read-b
+array-read-b c = search needs
 
-is-alphanumeric-requires : tie.Need-is-alphanumeric-requires
-is-alphanumeric-requires c κs = search needs
+returns : tie.Need-returns
+returns c =
+    let a = c .before .args in
+    let f : Fits w8 (getD (a .t2) 1 0) = search needs in
+    code-single (a .part) (getD (a .t2) 0 0) (getD (a .t2) 1 0) (getD (a .t2) 2 0) (f .fits) (a .lower) (a .slices) (c .if1 .taken) (search needs)
+
+is-alphanumeric-at-requires : tie.Need-is-alphanumeric-at-requires
+is-alphanumeric-at-requires c κs = search needs
 
 tall-slices-requires : tie.Need-tall-slices-requires
 tall-slices-requires c κs = search needs
 
-returns : tie.Need-returns
-returns c = let i = c .before .before in
-    let k = i .before .before in
-    rw (k .cell .given .1) (c .tall-slices .ensures ∙ shown-tall (k .cell .given .0 .0) (k .before .before .args .lower) (k .before .before .args .slices) _ (c .before .is-alphanumeric .ensures) (i .if1 .taken))
+returns-2 : tie.Need-returns-2
+returns-2 c =
+    let t = c .before .before in
+    let a = t .before .before .args in
+    let f : Fits w8 (getD (a .t2) 1 0) = search needs in
+    code-tall (a .part) (getD (a .t2) 0 0) (getD (a .t2) 1 0) (getD (a .t2) 2 0) (f .fits) (a .lower) (a .slices) (t .if2 .taken) (eq-eqb (getD (a .t2) 1 0 / 2 % 2) 1 (omega (arith, t .before .if1 .left))) _
+    (c .before .is-alphanumeric-at .ensures) _ (c .tall-slices .ensures)
 
-enum-known-cell-2 : tie.Need-enum-known-cell-2
-enum-known-cell-2 c = search needs
-
-enum-told : tie.Need-enum-told
-enum-told c = search needs
-
-enum-known-resolution : tie.Need-enum-known-resolution
-enum-known-resolution c = search needs
+half-of-requires : tie.Need-half-of-requires
+half-of-requires c κs = search needs
 
 tall-slices-requires-2 : tie.Need-tall-slices-requires-2
 tall-slices-requires-2 c κs = search needs
 
-returns-2 : tie.Need-returns-2
-returns-2 c = let k = c .before .before in
-    rw (k .cell .given .1) (shown-single (k .cell .given .0 .0) (k .before .before .args .lower) (k .before .before .args .slices) (c .if1 .left) (search needs))
-
 returns-3 : tie.Need-returns-3
-returns-3 c = let q = c .before .before .before in
-    rw (q .cell2 .given .1) (shown-high (q .cell2 .given .0 .0) (q .before .before .args .slices) (c .enum-told .given .1) (search needs))
-
-returns-4 : tie.Need-returns-4
-returns-4 c = let r = c .before .before in
-    let q = r .before .before .before in
-    rw (q .cell2 .given .1) (shown-low (q .cell2 .given .0 .0) (q .before .before .args .slices) (r .resolution .given .0 .0) (r .resolution .given .1) _ (c .tall-slices2 .ensures))
+returns-3 c =
+    let t = c .before .before in
+    let a = t .before .before .args in
+    let f : Fits w8 (getD (a .t2) 1 0) = search needs in
+    code-half (getD (a .t2) 0 0) (getD (a .t2) 1 0) (getD (a .t2) 2 0) (f .fits) (omega (arith, t .if2 .left)) (eq-eqb (getD (a .t2) 1 0 / 2 % 2) 1 (omega (arith, t .before .if1 .left)))
+    (a .lower) _ (a .slices) _ (c .tall-slices2 .ensures) (a .part) (c .before .half-of .ensures)
 
 pub shown-slices-spec : {M : Type 1} → statement M
 shown-slices-spec =
     tie.close
     (tie.spec
-    enum-known-cell
-    is-alphanumeric-requires
-    tall-slices-requires
+    array-read-b
     returns
-    enum-known-cell-2
-    enum-told
-    enum-known-resolution
-    tall-slices-requires-2
+    is-alphanumeric-at-requires
+    tall-slices-requires
     returns-2
-    returns-3
-    returns-4)
+    half-of-requires
+    tall-slices-requires-2
+    returns-3)
