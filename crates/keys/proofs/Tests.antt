@@ -1,4 +1,4 @@
--- Laws of tests: two that hold together are the same, and four in two pairs.
+-- Laws of tests: two that hold together are the same, four in two pairs, and three before others.
 -- Assumes nothing.
 use mathlib.Core.Path.{_≡_, refl, sym}
 use mathlib.Core.Bool.{Bool, true, false, _||_}
@@ -16,3 +16,9 @@ or-swap false true true d = refl
 or-swap false true false d = refl
 or-swap false false true d = refl
 or-swap false false false d = refl
+
+-- three before others
+pub or-three : (a b c d : Bool) → ((a || (b || c)) || d) ≡ (a || (b || (c || d)))
+or-three true b c d = refl
+or-three false true c d = refl
+or-three false false c d = refl

@@ -62,22 +62,9 @@ pub fn keys_of(shown: Shown, x: u8, y: u8, blocks: [u8; 3]) -> Keys
 pub fn is_source(keys: Keys) -> bool
     ensures { λ r. ⌜ r ≡ isSource keys ⌝ }
 {
-    if keys.user0 != 255 {
-        return true;
-    }
-    if keys.user10 != 255 {
-        return true;
-    }
-    if keys.user11 != 255 {
-        return true;
-    }
-    if keys.quad0 != 255 {
-        return true;
-    }
-    if keys.quad1 != 255 {
-        return true;
-    }
-    keys.quad2 != 255
+    let users = (keys.user0 != 255) | ((keys.user10 != 255) | (keys.user11 != 255));
+    let quads = (keys.quad0 != 255) | ((keys.quad1 != 255) | (keys.quad2 != 255));
+    users | quads
 }
 
 // A byte changes in some block.

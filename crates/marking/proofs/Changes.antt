@@ -8,7 +8,7 @@ use mathlib.Core.Logic.{_⊎_, inl, inr}
 use native.Mathlib.Omega.{arith}
 use lib.Dec.{eqb}
 use lib.ListN.{length, getD}
-use borrow.Author.Tests.{eq-eqb, ne-eqb, not-true}
+use borrow.Author.Tests.{eq-eqb, ne-eqb}
 use Rattle.basics.specs.Choice.{pick}
 use Rattle.basics.proofs.Choice.{pick-same, or-none, or-neither}
 use Rattle.address.specs.declared.triple.Triple.{Triple}
@@ -153,11 +153,11 @@ module _ (shown : Shown) (m : List ℕ) (marks : List Bool) (long : length marks
         ap₂ _||_ (ap (λ (t : Bool). t && on x y r (getD blocks 0 0)) (or-neither p (q || w) none))
         (ap₂ _||_ (ap (λ (t : Bool). t && on x y r (getD blocks 1 0)) (or-neither q w rest)) (ap (λ (t : Bool). t && on x y r (getD blocks 2 0)) (or-none q w rest)))
 
-    pub changes-none : (some : Bool) → some ≡ someChanged blocks → not some ≡ true → marks ≡ changeMarks shown m x y blocks marks
+    pub changes-none : (some : Bool) → some ≡ someChanged blocks → some ≡ false → marks ≡ changeMarks shown m x y blocks marks
     unfolding changeMarks
     changes-none some es n =
         sym
-        (ap (λ (l : List Bool). pick (canDraw shown) l marks) (sym (marked-none _ marks long (λ r l. none-on (sym es ∙ not-true some n) r)))
+        (ap (λ (l : List Bool). pick (canDraw shown) l marks) (sym (marked-none _ marks long (λ r l. none-on (sym es ∙ n) r)))
         ∙ pick-same (canDraw shown) marks)
 
     pub changes-asked :

@@ -13,6 +13,7 @@ ghost use Rattle.page.specs.Marks.{markedToo};
 ghost use Rattle.marking.specs.HowMarked.{fallsTo, inGroup, someOnList};
 ghost use Rattle.asking.specs.HowAsked.{tallAt, keyedAt};
 ghost use Rattle.keys.specs.HowKeys.{AllFitted, rowAt, someCodeBlock, keysHigh};
+use address::place::block;
 use address::row::row_y;
 use asking::row::has_tall;
 use asking::row::is_marked_or_keyed;
@@ -24,7 +25,6 @@ use keys::key::is_source;
 use keys::key::keys_of;
 use keys::key::some_code_block;
 use keys::own::row_at;
-use page::code::is_fitted;
 use shown::Shown;
 
 // The row that has the byte among its own, and those below it down to the first without a cell of double height.
@@ -123,13 +123,13 @@ pub fn list_marks(
     requires { ⌜ (length (now marks) ≡ 25) × (length (now memory) ≡ bytesOf (shown .blocks)) × (onPage x y ≡ true) × AllFitted (shown .blocks) blocks ⌝ }
     ensures { λ _. ⌜ now (marks .exit) ≡ markedToo (someOnList shown (now (memory .entry)) x y blocks) (now (marks .entry)) ⌝ }
 {
-    let z = shown.first_block();
     let yor = shown.yor();
+    let z = shown.first_block();
     if shown.is_eighty() {
         own_row(marks, z, yor, y, blocks);
         return;
     }
-    if !is_fitted(shown, 1) {
+    if shown.blocks <= block(z, 1) {
         own_row(marks, z, yor, y, blocks);
         return;
     }

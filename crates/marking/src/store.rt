@@ -34,41 +34,25 @@ fn some_unmarked(marks: &[bool; 25]) -> bool
     false
 }
 
-// Where every row is marked none is asked.
-fn asked_marks(
-    marks: [bool; 25],
-    shown: Shown,
-    memory: &[u8],
-    x: u8,
-    y: u8,
-    blocks: [u8; 3],
-) -> [bool; 25]
-    requires { ⌜ (length (now memory) ≡ bytesOf (shown .blocks)) × (onPage x y ≡ true) × AllFitted (shown .blocks) blocks ⌝ }
-    ensures { λ r. ⌜ r ≡ markedToo (someOnList shown (now (memory .entry)) x y blocks) marks ⌝ }
+// Where every row is marked none is asked. That question looks at a copy: of marks that are lent the compiler may not read all 25 at once.
+fn asked_marks(marks: &mut [bool; 25], shown: Shown, memory: &[u8], x: u8, y: u8, blocks: [u8; 3])
+    requires { ⌜ (length (now marks) ≡ 25) × (length (now memory) ≡ bytesOf (shown .blocks)) × (onPage x y ≡ true) × AllFitted (shown .blocks) blocks ⌝ }
+    ensures { λ _. ⌜ now (marks .exit) ≡ markedToo (someOnList shown (now (memory .entry)) x y blocks) (now (marks .entry)) ⌝ }
 {
-    let mut after = marks;
-    if some_unmarked(&after) {
-        list_marks(&mut after, shown, memory, x, y, blocks);
+    let before = *marks;
+    if some_unmarked(&before) {
+        list_marks(marks, shown, memory, x, y, blocks);
     }
-    after
 }
 
-// The marks after bytes at X and Y have changed in the blocks.
-fn change_marks(
-    marks: [bool; 25],
-    shown: Shown,
-    memory: &[u8],
-    x: u8,
-    y: u8,
-    blocks: [u8; 3],
-) -> [bool; 25]
-    requires { ⌜ (length (now memory) ≡ bytesOf (shown .blocks)) × (onPage x y ≡ true) × AllFitted (shown .blocks) blocks ⌝ }
-    ensures { λ r. ⌜ r ≡ changeMarks shown (now (memory .entry)) x y blocks marks ⌝ }
+// The marks after bytes at X and Y have changed in the blocks, in place: copying them in and out would cost more than most questions.
+fn change_marks(marks: &mut [bool; 25], shown: Shown, memory: &[u8], x: u8, y: u8, blocks: [u8; 3])
+    requires { ⌜ (length (now marks) ≡ 25) × (length (now memory) ≡ bytesOf (shown .blocks)) × (onPage x y ≡ true) × AllFitted (shown .blocks) blocks ⌝ }
+    ensures { λ _. ⌜ now (marks .exit) ≡ changeMarks shown (now (memory .entry)) x y blocks (now (marks .entry)) ⌝ }
 {
     if shown.can_draw() {
-        return asked_marks(marks, shown, memory, x, y, blocks);
+        asked_marks(marks, shown, memory, x, y, blocks);
     }
-    marks
 }
 
 // Block Z where the value changes the byte that it has at this offset, and else 255. The number of the board's blocks is a byte, so that 255 is none of them.
@@ -89,24 +73,25 @@ pub fn code_marks(
     shown: Shown,
     memory: &[u8],
     at: Triple,
+    here: usize,
     c: u8,
     b: u8,
     a: u8,
 ) -> [bool; 25]
-    requires { ⌜ (length (now memory) ≡ bytesOf (shown .blocks))
+    requires { ⌜ (length (now memory) ≡ bytesOf (shown .blocks)) × (here ≡ placeOf (at .x) (at .y) 0)
         × (legalIn (shown .blocks) (blockAt at 0) ≡ true) × (legalIn (shown .blocks) (blockAt at 1) ≡ true) × (legalIn (shown .blocks) (blockAt at 2) ≡ true) ⌝ }
     ensures { λ r. ⌜ r ≡ storesMarks shown (now (memory .entry)) (codeStores at c b a) marks ⌝ }
 {
-    let here = place_at(at.x as u16, at.y as u16, 0);
     let blocks = [
         changed_block(memory, shown.blocks, here, block(at.z, 0), c),
         changed_block(memory, shown.blocks, here, block(at.z, 1), b),
         changed_block(memory, shown.blocks, here, block(at.z, 2), a),
     ];
-    if !some_changed(blocks) {
-        return marks;
+    let mut after = marks;
+    if some_changed(blocks) {
+        change_marks(&mut after, shown, memory, at.x, at.y, blocks);
     }
-    change_marks(marks, shown, memory, at.x, at.y, blocks)
+    after
 }
 
 // The marks after C and the attributes of its column are stored at a legal triple's place and at theirs, both fitted; the stores themselves come after.
@@ -128,10 +113,11 @@ pub fn narrow_marks(
         changed_block(memory, shown.blocks, here, attributes.z, a),
         255,
     ];
-    if !some_changed(blocks) {
-        return marks;
+    let mut after = marks;
+    if some_changed(blocks) {
+        change_marks(&mut after, shown, memory, at.x, at.y, blocks);
     }
-    change_marks(marks, shown, memory, at.x, at.y, blocks)
+    after
 }
 
 // The marks after a store of `value` at a triple that is legal and fitted; the store itself comes after.
@@ -151,8 +137,9 @@ pub fn store_marks(
         255,
         255,
     ];
-    if !some_changed(blocks) {
-        return marks;
+    let mut after = marks;
+    if some_changed(blocks) {
+        change_marks(&mut after, shown, memory, at.x, at.y, blocks);
     }
-    change_marks(marks, shown, memory, at.x, at.y, blocks)
+    after
 }

@@ -78,8 +78,8 @@ fn code_stored(mut p: Processor, memory: &mut [u8], at: Triple) -> Processor
     let b = p.registers[2];
     let a = p.registers[3];
     let before = p.marks;
-    let after = code_marks(before, p.shown(), memory, at, c, b, a);
     let here = place_at(at.x as u16, at.y as u16, 0);
+    let after = code_marks(before, p.shown(), memory, at, here, c, b, a);
     memory[here + 1024 * block(at.z, 0) as usize] = c;
     memory[here + 1024 * block(at.z, 1) as usize] = b;
     memory[here + 1024 * block(at.z, 2) as usize] = a;

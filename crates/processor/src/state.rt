@@ -6,8 +6,6 @@ use board::Part;
 use shown::Shown;
 
 pub struct Processor {
-    // First, since behind the arrays it costs a command that stores forty instructions more.
-    pub part: Part,
     // R0 is the command.
     pub registers: [u8; 8],
     // By r: 1 TGS, 2 MAT, 3 PAT, 4 DOR, 7 ROR.
@@ -18,6 +16,7 @@ pub struct Processor {
     pub marks: [bool; 25],
     // How many blocks its private memory has.
     pub blocks: u8,
+    pub part: Part,
 }
 
 impl Processor {

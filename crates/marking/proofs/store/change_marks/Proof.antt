@@ -10,7 +10,8 @@ asked-marks-requires : tie.Need-asked-marks-requires
 asked-marks-requires c κs = search needs
 
 returns : tie.Need-returns
-returns c = let d = c .before .before in changes-asked _ _ _ (search needs) _ _ _ _ (d .can-draw .ensures) (c .before .if1 .taken) _ (c .asked-marks .ensures)
+returns c = let d = c .before .before .before in
+    changes-asked _ _ _ (search needs) _ _ _ _ (d .can-draw .ensures) (c .before .before .if1 .taken) _ (c .asked-marks .ensures)
 
 returns-2 : tie.Need-returns-2
 returns-2 c = changes-refused _ _ _ (search needs) _ _ _ _ (c .before .can-draw .ensures) (c .if1 .left)

@@ -23,28 +23,36 @@ changed-block-requires c κs = let s = c .before .before .before .before in
 some-changed-requires : tie.Need-some-changed-requires
 some-changed-requires c κs = search needs
 
-returns : tie.Need-returns
-returns c = let b = c .before .before in
-    let p = b .before in
-    let s = p .before .before .before .before in
-    let a = s .args in
-    changes-none (a .shown) (a .memory .now) (a .marks) (search needs) (a .at .x) (a .at .y) _ _ (c .before .some-changed .ensures) (c .if1 .taken)
-    ∙ sym
-    (store-changes (a .shown) (a .memory .now) (a .marks) (search needs) (a .at .x) (a .at .y) (a .at .z) _ (b .changed-block .ensures .1) _
-    (changed-at (a .memory .now) (a .at .x) (a .at .y) (a .at .z) _ _ _ _ (p .place-at .ensures) refl (b .changed-block .ensures .0)))
-
 change-marks-requires : tie.Need-change-marks-requires
-change-marks-requires c κs = let b = c .before .before in
+change-marks-requires c κs = let b = c .before .before .before in
     let s = b .before .before .before .before .before in
-    let board = s .args .shown .blocks in
-    (s .pre .0, legal-page board (s .args .at) (s .pre .1), (changed-fits board _ _ _ _ _ (legal-block board (s .args .at) (s .pre .1)) (b .changed-block .ensures .0), inl refl, inl refl))
+    let board = s .args .shown .blocks in (
+      search needs,
+      s .pre .0,
+      legal-page board (s .args .at) (s .pre .1),
+      (
+        changed-fits board _ _ _ _ _ (legal-block board (s .args .at) (s .pre .1)) (b .changed-block .ensures .0),
+        inl refl,
+        inl refl,
+      ),
+    )
 
-returns-2 : tie.Need-returns-2
-returns-2 c = let b = c .before .before .before in
+returns : tie.Need-returns
+returns c = let b = c .before .before .before .before in
     let p = b .before in
     let s = p .before .before .before .before in
     let a = s .args in
     c .change-marks .ensures
+    ∙ sym
+    (store-changes (a .shown) (a .memory .now) (a .marks) (search needs) (a .at .x) (a .at .y) (a .at .z) _ (b .changed-block .ensures .1) _
+    (changed-at (a .memory .now) (a .at .x) (a .at .y) (a .at .z) _ _ _ _ (p .place-at .ensures) refl (b .changed-block .ensures .0)))
+
+returns-2 : tie.Need-returns-2
+returns-2 c = let b = c .before .before in
+    let p = b .before in
+    let s = p .before .before .before .before in
+    let a = s .args in
+    changes-none (a .shown) (a .memory .now) (a .marks) (search needs) (a .at .x) (a .at .y) _ _ (c .before .some-changed .ensures) (c .if1 .left)
     ∙ sym
     (store-changes (a .shown) (a .memory .now) (a .marks) (search needs) (a .at .x) (a .at .y) (a .at .z) _ (b .changed-block .ensures .1) _
     (changed-at (a .memory .now) (a .at .x) (a .at .y) (a .at .z) _ _ _ _ (p .place-at .ensures) refl (b .changed-block .ensures .0)))
@@ -58,6 +66,6 @@ store-marks-spec =
     place-at-requires
     changed-block-requires
     some-changed-requires
-    returns
     change-marks-requires
+    returns
     returns-2)

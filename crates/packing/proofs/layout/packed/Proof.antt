@@ -55,9 +55,9 @@ returns c = let k = c .before in
     let s = f .before .before in
     let g = s .good .0 .1 .1 in
     let p = s .args .p in
-    let lr = length-unmapped _ (p .registers) 8 (g .1 .0 .1 .0 .1) in
-    let li = length-unmapped _ (p .indirect) 8 (g .1 .1 .0 .1 .0 .1) in
-    let lm = length-unmapped _ (p .marks) 25 (g .1 .1 .1 .1 .1 .1 .0 .1 .0 .1) in
+    let lr = length-unmapped _ (p .registers) 8 (g .0 .1 .0 .1) in
+    let li = length-unmapped _ (p .indirect) 8 (g .1 .0 .1 .0 .1) in
+    let lm = length-unmapped _ (p .marks) 25 (g .1 .1 .1 .1 .1 .0 .1 .0 .1) in
     let b =
     packed-parts p (f .before .flag .result) (f .flag2 .result) (n .board-byte .result) _ _ _ (d .put-eight .last .0) (e .put-eight2 .last .0) (k .put-marks .last .0) lr li lm
     (f .before .flag .ensures) (f .flag2 .ensures) (n .board-byte .ensures) (d .put-eight .ensures) (e .put-eight2 .ensures) (k .put-marks .ensures) in

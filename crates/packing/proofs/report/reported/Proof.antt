@@ -111,7 +111,7 @@ returns c = let k = c .before in
     let n = k .before .before in
     let s = n .before .before .before .before in
     let p = s .before .args .p in
-    reported-parts p (s .status .result) (n .part-number .result) (k .put-marks .last .0) (length-unmapped _ (p .marks) 25 (s .before .good .0 .1 .1 .1 .1 .1 .1 .1 .1 .0 .1 .0 .1))
+    reported-parts p (s .status .result) (n .part-number .result) (k .put-marks .last .0) (length-unmapped _ (p .marks) 25 (s .before .good .0 .1 .1 .1 .1 .1 .1 .1 .0 .1 .0 .1))
     (s .status .ensures) (n .part-number .ensures) (k .put-marks .ensures)
 
 pub reported-spec : {M : Type 1} → statement M
