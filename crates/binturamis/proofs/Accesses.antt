@@ -1,7 +1,7 @@
 -- Laws of accesses that are told apart first: those that ask for no execution, of which the register's part is all; and writes that are
 -- refused before they take place.
 -- Assumes nothing.
-use Prim.Native.Nat.{ℕ, _/_, _%_, _<_}
+use Prim.Native.Nat.{ℕ, _+_, _/_, _%_, _<_}
 use mathlib.Core.Path.{_≡_, refl, sym, ap, _∙_}
 use mathlib.Core.Bool.{Bool, true, false, _&&_}
 use mathlib.Core.List.{List}
@@ -42,13 +42,18 @@ unpacked-set bytes n v h =
       getD-set-other bytes n 44 v 0 (λ e. omega arith),
     )
 
--- bytes that have 0 for the board
+-- bytes that have 0 for the board, and 4
 pub full-board : (bytes : List ℕ) → getD bytes 44 0 ≡ 0 → fullBoard ≡ unpacked bytes .blocks
 unfolding unpacked
 full-board bytes z = rw z
 
-pub still-full : (bytes : List ℕ) (n v : ℕ) → n < 8 → getD bytes 44 0 ≡ 0 → getD (set bytes n v) 44 0 ≡ 0
-still-full bytes n v h z = getD-set-other bytes n 44 v 0 (λ e. omega arith) ∙ z
+pub ts9347-board : (bytes : List ℕ) → getD bytes 44 0 ≡ 4 → 32 ≡ unpacked bytes .blocks
+unfolding unpacked
+ts9347-board bytes z = rw z
+
+-- a register written leaves the board's byte
+pub still-board : (bytes : List ℕ) (n v b : ℕ) → n < 8 → getD bytes 44 0 ≡ b → getD (set bytes n v) 44 0 ≡ b
+still-board bytes n v b h z = getD-set-other bytes n 44 v 0 (λ e. omega arith) ∙ z
 
 -- the test of a plain access
 module _ (m : List ℕ) (blocks address : ℕ) (plain : Bool) (test : plain ≡ (eqb (length m) (bytesOf blocks) && eqb (address / 8) 4)) (taken : plain ≡ true) where
@@ -76,6 +81,15 @@ module _ (address : ℕ) (m bytes : List ℕ) (right : length m ≡ bytesOf (unp
       (b : List ℕ) (p : Processor) (v : ℕ) → p ≡ unpacked bytes → b ≡ packed p → v ≡ registerRead p (address % 8)
       → called b m v ≡ callOf isRefusal bytes (readOut address (chip (unpacked bytes) m))
   plain-read-made b p v ep eb ev = rw (plain-read address m (unpacked bytes) right four, ← ep, ← eb, ← ev) (ap (called b m) (omega arith))
+
+-- a plain write by how far its address is past 32, which is the register; the board has so many blocks
+pub past-write-made :
+    (address v blocks : ℕ) (m bytes : List ℕ) → blocks ≡ unpacked bytes .blocks → length m ≡ bytesOf blocks → (n : ℕ) → n ≡ (address + 224) % 256 → n < 8
+    → address < 256 → (b : List ℕ) (p : Processor) → p ≡ unpacked (set bytes n v) → b ≡ packed p
+    → called b m 0 ≡ callOf isEarly bytes (written address v (chip (unpacked bytes) m))
+past-write-made address v blocks m bytes board right n past plain small b p ep eb =
+    let register : n ≡ address % 8 = omega arith in
+    plain-write-made address m bytes (right ∙ ap bytesOf board) (omega arith) v b p (ep ∙ ap (λ (k : ℕ). unpacked (set bytes k v)) register) eb
 
 -- a write that is refused by 1 or 2 leaves everything alone, and any other leaves the processor packed; w is the answer of the former
 module _ (address v : ℕ) (m bytes : List ℕ) (w : ℕ)
@@ -124,21 +138,17 @@ module _ (address v : ℕ) (m bytes : List ℕ) (z : getD bytes 44 0 ≡ 0) wher
   abbrev after : Outcome
   after = written address v (chip (unpacked bytes) m)
 
-  module _ (e : length m ≡ bytesOf fullBoard) where
-    pub full-length : length m ≡ bytesOf (unpacked bytes .blocks)
-    full-length = rw (← full-board bytes z) e
+  module _ (e : length m ≡ bytesOf fullBoard) (small : address < 256) where
+    pub full-address-made : (address / 16 ≡ 2 → ⊥) → called bytes m 131072 ≡ callOf isEarly bytes after
+    full-address-made n =
+        early-made address v m bytes 131072
+        (rw (← full-board bytes z, eq-eqb (length m) (bytesOf fullBoard) e, ne-eqb (bits 4 4 address) 2 (λ q. n (omega arith))))
+        (λ q. omega arith)
 
-    module _ (small : address < 256) where
-      pub full-address-made : (address / 16 ≡ 2 → ⊥) → called bytes m 131072 ≡ callOf isEarly bytes after
-      full-address-made n =
-          early-made address v m bytes 131072
-          (rw (← full-board bytes z, eq-eqb (length m) (bytesOf fullBoard) e, ne-eqb (bits 4 4 address) 2 (λ q. n (omega arith))))
-          (λ q. omega arith)
-
-      pub full-late-made :
-          address / 16 ≡ 2 → (p : Processor) (r : Answered) (left b : List ℕ) (answer : ℕ) → p ≡ unpacked bytes →
-          outcomeOf r left ≡ written address v (chip p m) → b ≡ packed (r .processor) → answer ≡ word (numberOf (r .answer)) (valueOf (r .answer)) →
-          called b left answer ≡ callOf isEarly bytes after
-      full-late-made two p r left b answer =
-          late-made address v m bytes 0
-          (rw (← full-board bytes z, eq-eqb (length m) (bytesOf fullBoard) e, eq-eqb (bits 4 4 address) 2 (omega arith))) p r left b answer refl
+    pub full-late-made :
+        address / 16 ≡ 2 → (p : Processor) (r : Answered) (left b : List ℕ) (answer : ℕ) → p ≡ unpacked bytes →
+        outcomeOf r left ≡ written address v (chip p m) → b ≡ packed (r .processor) → answer ≡ word (numberOf (r .answer)) (valueOf (r .answer)) →
+        called b left answer ≡ callOf isEarly bytes after
+    full-late-made two p r left b answer =
+        late-made address v m bytes 0
+        (rw (← full-board bytes z, eq-eqb (length m) (bytesOf fullBoard) e, eq-eqb (bits 4 4 address) 2 (omega arith))) p r left b answer refl

@@ -28,6 +28,7 @@ use packing::layout::unpacked;
 use packing::report::reported;
 use processor::state::Processor;
 use way::unpacked_full;
+use way::write_elsewhere;
 use way::write_on_board;
 use word::power_word;
 
@@ -62,7 +63,7 @@ pub extern "C" fn binturamis_write(
     ensures { λ r. ⌜ called (now (p .exit)) (now (memory .exit)) r ≡ callOf isEarly (now (p .entry)) (written address value (chip (unpacked (now (p .entry))) (now (memory .entry)))) ⌝ }
 {
     if memory.len() != MEMORY_BYTES {
-        return write_on_board(p, memory, address, value);
+        return write_elsewhere(p, memory, address, value);
     }
     let n = past_32(address);
     if n < 8 {

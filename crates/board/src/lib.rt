@@ -12,6 +12,11 @@ pub const BLOCKS: u8 = 16;
 
 pub const MEMORY_BYTES: usize = 1024 * 16;
 
+// A TS9347's board, of which there is one.
+pub const TS9347_BLOCKS: u8 = 32;
+
+pub const TS9347_MEMORY_BYTES: usize = 1024 * 32;
+
 pub fn is_part(number: u8) -> bool
     ensures { λ r. ⌜ r ≡ isPart number ⌝ }
 {

@@ -1,13 +1,11 @@
-use Prim.Native.Nat.{_%_}
-use mathlib.Core.Path.{_≡_}
-use Rattle.binturamis.proofs.Accesses.{still-full, plain-write-made, full-length, full-address-made, full-late-made}
+use Rattle.binturamis.proofs.Accesses.{full-board, still-board, past-write-made, full-address-made, full-late-made}
 use native.Mathlib.Omega.{arith}
 use borrow.Author.Needs.{needs}
 use Rattle.binturamis.proofs.binturamis_write.Statement.{statement}
 use Rattle.binturamis.proofs.binturamis_write.Tie as tie
 
-write-on-board-requires : tie.Need-write-on-board-requires
-write-on-board-requires c κs = search needs
+write-elsewhere-requires : tie.Need-write-elsewhere-requires
+write-elsewhere-requires c κs = search needs
 
 same-length : tie.Need-same-length
 same-length c = search needs
@@ -21,8 +19,8 @@ past-32-requires c κs = search needs
 element-copy-out-if3 : tie.Need-element-copy-out-if3
 element-copy-out-if3 c = search needs
 
-write-on-board-requires-2 : tie.Need-write-on-board-requires-2
-write-on-board-requires-2 c κs = search needs
+write-on-board-requires : tie.Need-write-on-board-requires
+write-on-board-requires c κs = search needs
 
 same-length-2 : tie.Need-same-length-2
 same-length-2 c = search needs
@@ -39,7 +37,7 @@ element-write-p c = search needs
 unpacked-full-requires : tie.Need-unpacked-full-requires
 unpacked-full-requires c κs = let z = c .before in
     let a = z .before .before .before .before .before .before .args in
-    still-full (a .p .now) _ _ (omega arith) (z .if3 .left)
+    still-board (a .p .now) _ _ _ (omega arith) (z .if3 .left)
 
 packed-requires : tie.Need-packed-requires
 packed-requires c κs = search needs
@@ -49,16 +47,14 @@ returns-3 c = let u = c .before in
     let z = u .before .before in
     let n = z .before .before .before in
     let a = n .before .before .before .args in
-    let length = full-length (a .address) (a .value) (a .memory .now) (a .p .now) (z .if3 .left) (n .before .if1 .left) in
-    let register : n .past-32 .result ≡ a .address % 8 = omega (arith, n .past-32 .ensures) in
-    plain-write-made (a .address) (a .memory .now) (a .p .now) length (omega (arith, n .past-32 .ensures)) (a .value) _ _
-    (rw register at (u .unpacked-full .ensures)) (c .packed .ensures .0)
+    past-write-made (a .address) (a .value) _ (a .memory .now) (a .p .now) (full-board (a .p .now) (z .if3 .left)) (n .before .if1 .left) _ (n .past-32 .ensures)
+    (omega arith) (omega arith) _ _ (u .unpacked-full .ensures) (c .packed .ensures .0)
 
 element-copy-out-if4 : tie.Need-element-copy-out-if4
 element-copy-out-if4 c = search needs
 
-write-on-board-requires-3 : tie.Need-write-on-board-requires-3
-write-on-board-requires-3 c κs = search needs
+write-on-board-requires-2 : tie.Need-write-on-board-requires-2
+write-on-board-requires-2 c κs = search needs
 
 same-length-3 : tie.Need-same-length-3
 same-length-3 c = search needs
@@ -99,12 +95,12 @@ pub binturamis-write-spec : {M : Type 1} → statement M
 binturamis-write-spec =
     tie.close
     (tie.spec
-    write-on-board-requires
+    write-elsewhere-requires
     same-length
     returns
     past-32-requires
     element-copy-out-if3
-    write-on-board-requires-2
+    write-on-board-requires
     same-length-2
     returns-2
     cast-p
@@ -113,7 +109,7 @@ binturamis-write-spec =
     packed-requires
     returns-3
     element-copy-out-if4
-    write-on-board-requires-3
+    write-on-board-requires-2
     same-length-3
     returns-4
     returns-5
