@@ -33,8 +33,8 @@
 /* The version of the library and of this header. */
 #define BINTURAMIS_VERSION_MAJOR 0u
 #define BINTURAMIS_VERSION_MINOR 6u
-#define BINTURAMIS_VERSION_PATCH 0u
-#define BINTURAMIS_VERSION "0.6.0"
+#define BINTURAMIS_VERSION_PATCH 1u
+#define BINTURAMIS_VERSION "0.6.1"
 
 /*
  * The bytes of each thing that is lent. Memory and ROM have these of an EF9345 with 16 blocks. With fewer blocks its memory has
