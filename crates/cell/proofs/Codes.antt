@@ -105,6 +105,12 @@ unfolding lastBichrome
 bichrome-last Ef9345 b h = agree-test (λ b. not (areBothSet b)) (λ b. leb b 191) 256 tt b h
 bichrome-last Ts9347 b h = sym (le-leb b 255 (omega arith))
 
+-- below 192 each part has a bichrome cell
+pub below-last : (part : Part) (b : ℕ) → b < 192 → b ≤ lastBichrome part
+unfolding lastBichrome
+below-last Ef9345 b l = omega arith
+below-last Ts9347 b l = omega arith
+
 module _ (part : Part) (c b a : ℕ) (h : b < 256) where
   pub cell-bichrome : b ≤ lastBichrome part → Bichrome (bichromeOf part c b a) ≡ cellOf part c b a
   unfolding cellOf

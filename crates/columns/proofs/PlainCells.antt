@@ -20,8 +20,7 @@ use Rattle.shown.specs.Lengths.{romBytes}
 use Rattle.cell.specs.declared.kind.Cell.{Cell}
 use Rattle.cell.specs.declared.kind.Cell.the-variants.{Bichrome}
 use Rattle.cell.specs.Cells.{areBothSet, bichromeOf}
-use Rattle.cell.specs.HowCells.{lastBichrome}
-use Rattle.cell.proofs.Codes.{wide-bits, cell-bichrome}
+use Rattle.cell.proofs.Codes.{wide-bits, below-last, cell-bichrome}
 use Rattle.sources.specs.Sources.{romSlice, sliceFrom, slicesOf}
 use Rattle.sources.specs.HowSources.{setNumber}
 use Rattle.sources.proofs.CellSources.{set-plain, set-fits}
@@ -47,12 +46,6 @@ start-fits part c b first e = omega (arith, e, set-fits part (b / 16 % 8) (omega
 -- and that the sum is small
 pub start-small : (part : Part) (c b first : ℕ) → first ≡ setNumber part (b / 16 % 8) * 1280 + c % 128 * 10 → first + 10 ≤ 6400
 start-small part c b first e = omega (arith, start-fits part c b first e, rom-most part)
-
--- below 128 every cell is bichrome
-below-last : (part : Part) (b : ℕ) → b < 128 → b ≤ lastBichrome part
-unfolding lastBichrome
-below-last Ef9345 b l = omega arith
-below-last Ts9347 b l = omega arith
 
 module _ (m rom : List ℕ) (shown : Shown) (code : List ℕ) (plain : isPlain (getD code 1 0) ≡ true) where
   abbrev b : ℕ
@@ -107,7 +100,7 @@ module _ (m rom : List ℕ) (shown : Shown) (code : List ℕ) (plain : isPlain (
       ten-whole m rom shown cell lower right _ _
       (shown-single (bichromeOf (shown .part) (getD code 0 0) b (getD code 2 0)) lower _ (ne-eqb (b / 2 % 2) 1 (λ q. omega (arith, single))) long)
       slices m-small rom-small long single-wide
-      ∙ ap (λ (z : Cell). tenOf m rom shown z lower right) (cell-bichrome (shown .part) (getD code 0 0) b (getD code 2 0) (omega (arith, below)) (below-last (shown .part) b below))
+      ∙ ap (λ (z : Cell). tenOf m rom shown z lower right) (cell-bichrome (shown .part) (getD code 0 0) b (getD code 2 0) (omega (arith, below)) (below-last (shown .part) b (omega (arith, below))))
 
 -- ten bytes put among those of the other cells, by the length that the code has
 pub put-plain :

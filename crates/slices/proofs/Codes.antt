@@ -17,7 +17,7 @@ use Rattle.board.specs.declared.Part.the-variants.{Ef9345, Ts9347}
 use Rattle.cell.specs.declared.kind.Cell.{Cell}
 use Rattle.cell.specs.Cells.{ef9345Set, ts9347Set, setOf, alphanumericOf, bichromeOf, resolutionOf, quadrichromeOf, cellOf}
 use Rattle.cell.specs.HowCells.{lastBichrome}
-use Rattle.cell.proofs.Codes.{ts9347-Q, cell-bichrome, cell-quadrichrome}
+use Rattle.cell.proofs.Codes.{ts9347-Q, below-last, cell-bichrome, cell-quadrichrome}
 use Rattle.pixels.specs.Slices.{bichromeSlice, quadrichromeSlice, sliceShown}
 use Rattle.slices.specs.HowSlices.{twentyAt, byNumber, halfOf}
 use Rattle.slices.proofs.Slices.{shown-tall, shown-single, shown-low, shown-high}
@@ -58,12 +58,8 @@ module _ (part : Part) (c b a : ℕ) (h : b < 256) (lower : Bool) (slices : List
   pub code-tall :
       b < 192 → isSet 1 b ≡ true → (letters : Bool) → letters ≡ alphanumericOf (setOf part b) → (ten : List ℕ)
       → ten ≡ shownBy (twentyAt letters lower) → ten ≡ shownBy (sliceShown cell lower)
-  unfolding lastBichrome bichromeOf
-  code-tall l set letters e ten p = p ∙ shown-tall (bichromeOf part c b a) lower slices letters e set ∙ bichrome (below part)
-    where
-      below : (part : Part) → b ≤ lastBichrome part
-      below Ef9345 = omega arith
-      below Ts9347 = omega arith
+  unfolding bichromeOf
+  code-tall l set letters e ten p = p ∙ shown-tall (bichromeOf part c b a) lower slices letters e set ∙ bichrome (below-last part b l)
 
 -- and from 192 on of low resolution, or of double height and not alphanumeric
 module _ (c b a : ℕ) (h : b < 256) (k : 192 ≤ b) (set : isSet 1 b ≡ true) (lower half : Bool) (slices ten : List ℕ) (p : ten ≡ byNumber slices (twentyAt false half)) where

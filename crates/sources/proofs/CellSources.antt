@@ -20,7 +20,7 @@ use Rattle.cell.specs.declared.kind.Set.the-variants.{UserG0, UserG1}
 use Rattle.cell.specs.declared.kind.Cell.the-variants.{Bichrome, Quadrichrome}
 use Rattle.cell.specs.Cells.{ef9345Set, ts9347Set, setOf, bichromeOf, quadrichromeOf, isQuadrichrome, cellOf}
 use Rattle.cell.specs.HowCells.{lastBichrome}
-use Rattle.cell.proofs.Codes.{set-UserG0, set-UserG1, ts9347-G0, ts9347-G10, ts9347-Goe, ts9347-UserG0, ts9347-UserG1, ts9347-Q, cell-bichrome, cell-quadrichrome}
+use Rattle.cell.proofs.Codes.{set-UserG0, set-UserG1, ts9347-G0, ts9347-G10, ts9347-Goe, ts9347-UserG0, ts9347-UserG1, ts9347-Q, below-last, cell-bichrome, cell-quadrichrome}
 use Rattle.sources.specs.Sources.{setSource, cellSource, characterOf}
 use Rattle.sources.specs.HowSources.{setNumber, setsFrom, userBlock}
 use Rattle.sources.specs.declared.source.Source.{Source}
@@ -101,11 +101,8 @@ module _ (shown : Shown) (c b a : ℕ) (small : b < 256) where
   unfolding bichromeOf
   bichrome part l = ap (cellSource shown) (sym (cell-bichrome part c b a small l))
 
-  -- below 192 each part has a bichrome cell
   pub of-set : (part : Part) → b < 192 → sourceOf part ≡ setSource shown (setOf part b)
-  unfolding lastBichrome
-  of-set Ef9345 l = bichrome Ef9345 (omega arith)
-  of-set Ts9347 l = bichrome Ts9347 (omega arith)
+  of-set part l = bichrome part (below-last part b l)
 
   pub source-user0 : (part : Part) → 128 ≤ b → b < 160 → sourceOf part ≡ Block (shown .dor % 16)
   source-user0 part h l = of-set part (omega arith) ∙ ap (setSource shown) (sym (named part)) ∙ ap Block (omega arith)
