@@ -112,9 +112,7 @@ module _ (shown : Shown) (c b a : ℕ) (small : b < 256) where
       named Ts9347 = ts9347-UserG0 b h l
 
   pub source-user1 : (part : Part) → 160 ≤ b → b < 192 → sourceOf part ≡ Block (2 * (shown .dor / 16 % 8) + b / 16 % 2)
-  source-user1 part h l =
-      let e : 2 * bits 4 3 (shown .dor) + b / 16 % 2 % 2 ≡ 2 * (shown .dor / 16 % 8) + b / 16 % 2 = omega arith in
-      of-set part l ∙ ap (setSource shown) (sym (named part)) ∙ ap Block e
+  source-user1 part h l = of-set part l ∙ ap (setSource shown) (sym (named part)) ∙ ap Block (omega arith)
     where
       named : (part : Part) → UserG1 (b / 16 % 2) ≡ setOf part b
       named Ef9345 = let e : b / 16 % 2 ≡ bits 4 4 b % 2 = omega arith in ap UserG1 e ∙ set-UserG1 (bits 4 4 b) (omega arith)
@@ -123,12 +121,8 @@ module _ (shown : Shown) (c b a : ℕ) (small : b < 256) where
   -- quadrichrome of the one, of a set Q of the other: the same block
   pub source-quad : (part : Part) → 192 ≤ b → sourceOf part ≡ Block (8 * (shown .dor / 128 % 2) + b / 8 % 8)
   unfolding lastBichrome quadrichromeOf
-  source-quad Ef9345 h =
-      let e : 8 * (shown .dor / 128 % 2) + bits 3 3 b % 8 ≡ 8 * (shown .dor / 128 % 2) + b / 8 % 8 = omega arith in
-      ap (cellSource shown) (sym (cell-quadrichrome Ef9345 c b a small (omega arith))) ∙ ap Block e
-  source-quad Ts9347 h =
-      let e : 8 * (shown .dor / 128 % 2) + b / 8 % 8 % 8 ≡ 8 * (shown .dor / 128 % 2) + b / 8 % 8 = omega arith in
-      bichrome Ts9347 (omega arith) ∙ ap (setSource shown) (sym (ts9347-Q b h small)) ∙ ap Block e
+  source-quad Ef9345 h = ap (cellSource shown) (sym (cell-quadrichrome Ef9345 c b a small (omega arith))) ∙ ap Block (omega arith)
+  source-quad Ts9347 h = bichrome Ts9347 (omega arith) ∙ ap (setSource shown) (sym (ts9347-Q b h small)) ∙ ap Block (omega arith)
 
   -- the set and the block as the code works them out
   pub source-rom : b < 128 → (set : ℕ) → set ≡ setNumber (shown .part) (b / 16 % 8) → Rom set ≡ sourceOf (shown .part)
