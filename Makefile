@@ -7,13 +7,17 @@ help: ## these lines
 PHASE = 0
 SNAPSHOT = cargo run --quiet --release --offline -p snapshot
 
-demo: target/library/libbinturamis.a ## two pages of a plant, drawn by the library: shown here, and as target/demo.png and demo80.png; PHASE=1 hides what flashes
+demo: target/library/libbinturamis.a ## two pages of a plant, and a list before and after its scroll, drawn by the library: shown here, and as target/demo*.png; PHASE=1 hides what flashes
 	@cd host && $(SNAPSHOT) --bin demonstration -- 40 >../target/demo.accesses
 	@cd host && $(SNAPSHOT) --bin snapshot -- ../target/demo.accesses --png ../target/demo.png --phase $(PHASE)
 	@cd host && $(SNAPSHOT) --bin demonstration -- 80 >../target/demo80.accesses
 	@cd host && $(SNAPSHOT) --bin snapshot -- ../target/demo80.accesses --png ../target/demo80.png --phase $(PHASE)
-	@echo "target/demo.png and target/demo80.png are the whole pictures, of 40 and 80 columns; target/demo.accesses and target/demo80.accesses"
-	@echo "are the register accesses that draw them"
+	@cd host && $(SNAPSHOT) --bin demonstration -- list >../target/demo-list.accesses
+	@cd host && $(SNAPSHOT) --bin snapshot -- ../target/demo-list.accesses --png ../target/demo-list.png --phase $(PHASE)
+	@cd host && $(SNAPSHOT) --bin demonstration -- scroll >../target/demo-scroll.accesses
+	@cd host && $(SNAPSHOT) --bin snapshot -- ../target/demo-scroll.accesses --steps 40 --png ../target/demo-scroll.png --phase $(PHASE)
+	@echo "target/demo.png and target/demo80.png are the whole pictures, of 40 and 80 columns; target/demo-list.png and target/demo-scroll.png"
+	@echo "are the list before and after it was scrolled by MVT; the register accesses that draw each of them are beside it, in *.accesses"
 
 test: ## the gate: proofs, must-fail edits, programs, host tests, installation, benchmark, demonstration
 	./.ci/run

@@ -15,6 +15,7 @@
 
 #include "board.h"
 #include "prepare.h"
+#include "prepare_moves.h"
 #include "prepare_ts9347.h"
 #include "prepare_wide.h"
 
@@ -32,12 +33,14 @@ struct scenario {
 #define PAGES (4 * BINTURAMIS_ROWS)
 
 #define NARROW sizeof(struct panel)
+#define MOVING sizeof(struct moving)
 #define WIDE sizeof(struct wide)
 #define TS9347 sizeof(struct ts9347)
 
 /* The panels of a scenario, one after the other in the size that it has. */
 static union {
     struct panel narrow[PAGES];
+    struct moving moving[PAGES];
     struct wide wide[PAGES];
     struct ts9347 ts9347[PAGES];
 } panels;
@@ -116,6 +119,27 @@ static void repeat_refill(struct panel *panel, unsigned long round)
 {
     put_page(panel, panel->pages[round % 2]);
     draw(panel, BINTURAMIS_ROWS);
+}
+
+/* From round to round the cell that the move is at becomes another and is the first again. */
+static void repeat_step(struct panel *panel, unsigned long round)
+{
+    panel->processor = round % 2 == 0 ? panel->before : moving_of(panel)->back;
+    step(panel, 1);
+}
+
+/* A hundred steps. */
+static void repeat_idle_step(struct panel *panel, unsigned long round)
+{
+    (void)round;
+    step(panel, 100);
+}
+
+/* Rows 1 to 24 aside come in one after the other, so that each row gets another than it has; but the two rows of a title are the same. */
+static void repeat_scroll(struct panel *panel, unsigned long round)
+{
+    scroll(panel, 1 + (unsigned)(round % (BINTURAMIS_ROWS - 1)));
+    draw_some(panel, BINTURAMIS_ROWS - 2);
 }
 
 static void repeat_wide_redraw(struct panel *panel, unsigned long round)
@@ -226,6 +250,17 @@ static const struct scenario scenarios[] = {
     {"refill", NARROW, 1, random_cells, prepare_drawn, repeat_refill},
     {"refill_single", NARROW, 1, single_cells, prepare_drawn, repeat_refill},
     {"refill_text", NARROW, 1, text, prepare_drawn, repeat_refill},
+    {"step", MOVING, PAGES, random_cells, prepare_mvt, repeat_step},
+    {"step_text", MOVING, PAGES, text, prepare_mvt, repeat_step},
+    {"step_quadrichrome", MOVING, PAGES, quadrichrome_cells, prepare_mvt, repeat_step},
+    {"step_user", MOVING, PAGES, user_cells, prepare_mvt, repeat_step},
+    {"step_mvb", MOVING, PAGES, random_cells, prepare_mvb, repeat_step},
+    {"step_mvd", MOVING, PAGES, random_cells, prepare_mvd, repeat_step},
+    {"step_aside", MOVING, PAGES, random_cells, prepare_mvt_aside, repeat_step},
+    {"step_aside_text", MOVING, PAGES, text, prepare_mvt_aside, repeat_step},
+    {"step_idle", NARROW, 1, random_cells, prepare_drawn, repeat_idle_step},
+    {"scroll", NARROW, 1, random_cells, prepare_scroll, repeat_scroll},
+    {"scroll_text", NARROW, 1, text, prepare_scroll, repeat_scroll},
     {"redraw_80", WIDE, 1, random_codes, prepare_wide_marked, repeat_wide_redraw},
     {"redraw_80_text", WIDE, 1, wide_text, prepare_wide_marked, repeat_wide_redraw},
     {"row_80", WIDE, BINTURAMIS_ROWS, random_codes, prepare_wide_row, repeat_wide_row},

@@ -16,12 +16,12 @@
 #include "binturamis.h"
 
 /* Ends with a newline, and counts up when what goes over the pipes changes. */
-#define GREETING "binturamis bridge 4\n"
+#define GREETING "binturamis bridge 5\n"
 
 /* The bytes past a buffer's length that no call may change either. */
 #define SPARE 64
 
-enum call { POWER_UP = 'P', POWER_UP_BOARD = 'B', WRITE = 'W', READ = 'R', TURN = 'T', DRAW = 'D', STATE = 'S' };
+enum call { POWER_UP = 'P', POWER_UP_BOARD = 'B', WRITE = 'W', READ = 'R', STEP = 'M', TURN = 'T', DRAW = 'D', STATE = 'S' };
 
 /* A lent buffer, and what the other end knows of it. The two are equal, but while a call's changes have not been sent. */
 struct lent {
@@ -111,7 +111,7 @@ static void send_changes(struct lent *buffer)
 /* Does the same to each buffer that a call is lent, in the order of the call's arguments. */
 static void each_lent(enum call call, void (*act)(struct lent *))
 {
-    if (call == WRITE || call == READ || call == TURN || call == DRAW)
+    if (call == WRITE || call == READ || call == STEP || call == TURN || call == DRAW)
         act(&memory);
     if (call == DRAW) {
         act(&rom);
@@ -131,6 +131,8 @@ static uint32_t carry_out(enum call call, const uint8_t operands[2], binturamis_
         return binturamis_write(p, memory.bytes, memory.length, operands[0], operands[1]);
     case READ:
         return binturamis_read(p, memory.bytes, memory.length, operands[0]);
+    case STEP:
+        return binturamis_step(p, memory.bytes, memory.length);
     case TURN:
         return binturamis_turn(p, memory.bytes, memory.length, operands[0]);
     case DRAW:

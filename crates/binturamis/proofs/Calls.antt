@@ -14,7 +14,7 @@ use Rattle.processor.specs.Draws.{drawOutcomeOf, drawn}
 use Rattle.packing.specs.Layouts.{unpacked}
 use Rattle.binturamis.specs.Calls.{word, isRefusal, bytesAfter, called, callOf, drawCalled, drawCallOf}
 
--- of an access or a phase change, which has changed nothing with the numbers that pass
+-- of an access, a phase change or a step, which has changed nothing with the numbers that pass
 pub call-made :
     (unchanged : ℕ → Bool) (operation : Chip → Outcome) (bytes m : List ℕ) (p : Processor) (r : Answered) (after b : List ℕ) (w : ℕ)
     → p ≡ unpacked bytes → outcomeOf r after ≡ operation (chip p m)

@@ -6,7 +6,7 @@ use mathlib.Core.Bool.{true, false, false≢true}
 use mathlib.Core.Logic.{_≢_}
 use Rattle.packing.specs.Layouts.{unpacked}
 use Rattle.kept.specs.Orders.{isEarly}
-use Rattle.kept.specs.Runs.{write, read, turn, draw, World}
+use Rattle.kept.specs.Runs.{write, read, turn, move, draw, World}
 use Rattle.kept.proofs.Refusals.{refusal-leaves}
 use Rattle.binturamis.specs.Calls.{isRefusal}
 use Rattle.binturamis.specs.Promises.{RefusedCall}
@@ -28,4 +28,5 @@ refused-call (write x address v) b e =
     let l = refusal-leaves (write x address v) (worldOf b) (early-refuses _ e) in (rw e, l .1, l .2)
 refused-call (read x address) b e = let l = refusal-leaves (read x address) (worldOf b) (refusal-refuses _ e) in (rw e, l .1, l .2)
 refused-call (turn x n) b e = let l = refusal-leaves (turn x n) (worldOf b) (refusal-refuses _ e) in (rw e, l .1, l .2)
+refused-call (move x) b e = let l = refusal-leaves (move x) (worldOf b) (refusal-refuses _ e) in (rw e, l .1, l .2)
 refused-call (draw x y z) b e = let l = refusal-leaves (draw x y z) (worldOf b) (refusal-refuses _ e) in (rw e, l .1, l .2)

@@ -15,7 +15,7 @@ use Rattle.board.specs.declared.Part.{Part}
 use Rattle.processor.specs.declared.state.Processor.{Processor}
 use Rattle.processor.specs.Sizes.{Sized}
 use Rattle.kept.specs.Orders.{isEarly, isLate}
-use Rattle.kept.specs.Runs.{Operation, write, read, turn, draw, World, first, step, run, done, registered}
+use Rattle.kept.specs.Runs.{Operation, write, read, turn, move, draw, World, first, step, run, done, registered}
 use Rattle.kept.proofs.Boards.{board-stays, power-up-board}
 use Rattle.kept.proofs.Refusals.{refusal-leaves}
 use Rattle.kept.proofs.Sizes.{step-sized, run-sized, power-up-sized}
@@ -31,10 +31,11 @@ alone : (unchanged : Bool) (p q : Processor) → (unchanged ≡ true → q ≡ p
 alone true p q e = ap packed (sym (e refl))
 alone false p q e = refl
 
--- 1 and 2 are not 3, 4 or 11
+-- 1, 2 and 10 are not 3, 4 or 11
 early-not-late : (n : ℕ) (p q : Processor) → isEarly n ≡ true → pick (isLate n) p q ≡ q
 early-not-late n p q e =
-    ⊎-elim (λ o. rw (eqb-true n 1 o)) (λ t. rw (eqb-true n 2 t)) (or-cases (eqb n 1) (eqb n 2) e)
+    ⊎-elim (λ o. rw (eqb-true n 1 o))
+    (λ r. ⊎-elim (λ t. rw (eqb-true n 2 t)) (λ t. rw (eqb-true n 10 t)) (or-cases (eqb n 2) (eqb n 10) r)) (or-cases (eqb n 1) _ e)
 
 -- where a call leaves them alone, the operation left the processor as it was
 stays : (o : Operation) (w : World) → leavesAlone o (done o w .number) ≡ true → done o w .processor ≡ w .processor
@@ -43,6 +44,7 @@ stays (write x address v) w e =
     refusal-leaves (write x address v) w (early-refuses n e) .0 ∙ early-not-late n (registered (write x address v) w) (w .processor) e
 stays (read x address) w e = refusal-leaves (read x address) w (refusal-refuses _ e) .0 ∙ pick-same (isLate (done (read x address) w .number)) (w .processor)
 stays (turn x n) w e = refusal-leaves (turn x n) w (refusal-refuses _ e) .0 ∙ pick-same (isLate (done (turn x n) w .number)) (w .processor)
+stays (move x) w e = refusal-leaves (move x) w (refusal-refuses _ e) .0 ∙ pick-same (isLate (done (move x) w .number)) (w .processor)
 stays (draw x y z) w e = refusal-leaves (draw x y z) w (refusal-refuses _ e) .0 ∙ pick-same (isLate (done (draw x y z) w .number)) (w .processor)
 
 -- the processor is one of a board, and stays one
@@ -62,6 +64,7 @@ call-done : (o : Operation) (w : World) → Sized (w .processor) → Board w →
 call-done (write x address v) w s b = rw (unpacked-packed (w .processor) s b, alone (isEarly (done (write x address v) w .number)) (w .processor) _ (stays (write x address v) w))
 call-done (read x address) w s b = rw (unpacked-packed (w .processor) s b, alone (isRefusal (done (read x address) w .number)) (w .processor) _ (stays (read x address) w))
 call-done (turn x n) w s b = rw (unpacked-packed (w .processor) s b, alone (isRefusal (done (turn x n) w .number)) (w .processor) _ (stays (turn x n) w))
+call-done (move x) w s b = rw (unpacked-packed (w .processor) s b, alone (isRefusal (done (move x) w .number)) (w .processor) _ (stays (move x) w))
 call-done (draw x y z) w s b = rw (unpacked-packed (w .processor) s b, alone (isRefusal (done (draw x y z) w .number)) (w .processor) _ (stays (draw x y z) w))
 
 call-step : (o : Operation) (w : World) → Sized (w .processor) → Board w → call o (callerOf w) ≡ callerOf (step o w)

@@ -23,7 +23,7 @@ isRefusal n = not (eqb n 0)
 abbrev pub bytesAfter : Bool → List ℕ → Processor → List ℕ
 bytesAfter unchanged before p = pick unchanged before (packed p)
 
--- of an access or a phase change: the 64 bytes and the private memory
+-- of an access, a phase change or a step: the 64 bytes and the private memory
 pub record Called : Type 0 where
   pub bytes : List ℕ
   pub memory : List ℕ

@@ -8,7 +8,7 @@ use mathlib.Core.List.{List}
 use Rattle.board.specs.Boards.{isBoard}
 use Rattle.board.specs.declared.Part.{Part}
 use Rattle.kept.specs.Orders.{isEarly}
-use Rattle.kept.specs.Runs.{Operation, write, read, turn, draw, first, run, done, lentOf, memoryLent, pictureLent}
+use Rattle.kept.specs.Runs.{Operation, write, read, turn, move, draw, first, run, done, lentOf, memoryLent, pictureLent}
 use Rattle.packing.specs.Layouts.{unpacked}
 use Rattle.binturamis.specs.Calls.{word, isRefusal}
 use Rattle.binturamis.specs.Runs.{Caller, callerOf, calledBy, calls}
@@ -32,11 +32,12 @@ CallsAnswer =
     let d = done o (run os (first part blocks m rom picture)) in
     calledBy o (calls os (callerOf (first part blocks m rom picture))) .answer ≡ word (d .number) (d .value)
 
--- the numbers with which a call has changed nothing: of a write 1 and 2, since its register is written before 3, 4 and 11; of the others all
+-- the numbers with which a call has changed nothing: of a write 1, 2 and 10, since its register is written before 3, 4 and 11; of the others all
 abbrev pub leavesAlone : Operation → ℕ → Bool
 leavesAlone (write x address v) n = isEarly n
 leavesAlone (read x address) n = isRefusal n
 leavesAlone (turn x phase) n = isRefusal n
+leavesAlone (move x) n = isRefusal n
 leavesAlone (draw x y z) n = isRefusal n
 
 -- such a call leaves the 64 bytes alone, whatever they hold, and the memory and the picture that it was lent

@@ -5,9 +5,10 @@ use mathlib.Core.List.{List, [], _∷_}
 use Rattle.command.specs.Answers.{numberOf, drawNumberOf}
 use Rattle.processor.specs.States.{Chip, chip}
 use Rattle.processor.specs.Access.{written, readOut, turned}
+use Rattle.processor.specs.Moves.{stepped}
 use Rattle.processor.specs.Draws.{DrawOutcome, drawn}
 use Rattle.kept.specs.Orders.{isEarly}
-use Rattle.kept.specs.Runs.{Lent, Operation, write, read, turn, draw, World, lentOf, memoryLent, pictureLent, memoryKept, pictureKept}
+use Rattle.kept.specs.Runs.{Lent, Operation, write, read, turn, move, draw, World, lentOf, memoryLent, pictureLent, memoryKept, pictureKept}
 use Rattle.packing.specs.Layouts.{packed, unpacked}
 use Rattle.binturamis.specs.Calls.{isRefusal, Called, callOf, DrawCalled, drawCallOf}
 
@@ -48,6 +49,7 @@ calledBy (write x address v) b =
     let o = written address v (held x b) in callDone (callOf isEarly (b .bytes) o) (numberOf (o .answer)) b
 calledBy (read x address) b = let o = readOut address (held x b) in callDone (callOf isRefusal (b .bytes) o) (numberOf (o .answer)) b
 calledBy (turn x n) b = let o = turned n (held x b) in callDone (callOf isRefusal (b .bytes) o) (numberOf (o .answer)) b
+calledBy (move x) b = let o = stepped (held x b) in callDone (callOf isRefusal (b .bytes) o) (numberOf (o .answer)) b
 calledBy (draw x y z) b =
     let o = drawnBy x y z b in drawCallDone (drawCallOf (b .bytes) o) (drawNumberOf (o .answer)) (lentOf x (b .memory))
 

@@ -20,7 +20,7 @@ pub fn leave_written(p: &mut [u8; 64], answered: Answered) -> u32
     word(answer)
 }
 
-// Of a read or a phase change.
+// Of a read, a phase change or a step.
 pub fn leave(p: &mut [u8; 64], answered: Answered) -> u32
     ensures { λ r. ⌜ (now (p .exit) ≡ bytesAfter (isRefusal (numberOf (answered .answer))) (now (p .entry)) (answered .processor)) × (r ≡ word (numberOf (answered .answer)) (valueOf (answered .answer))) ⌝ }
 {

@@ -6,6 +6,7 @@ ghost use Rattle.command.specs.Answers.{powerNumberOf};
 ghost use Rattle.processor.specs.States.{chip, powerUp};
 ghost use Rattle.processor.specs.PowerUps.{poweredUpBoard};
 ghost use Rattle.processor.specs.Access.{written, readOut, turned};
+ghost use Rattle.processor.specs.Moves.{stepped};
 ghost use Rattle.processor.specs.Draws.{drawn};
 ghost use Rattle.packing.specs.Layouts.{packed, unpacked};
 ghost use Rattle.packing.specs.Reports.{reported};
@@ -52,7 +53,8 @@ pub extern "C" fn binturamis_power_up_board(p: &mut [u8; 64], part: u8, blocks: 
     power_word(answer)
 }
 
-// A register is written; then the command runs, if the address asks for it. On 16 blocks, with 0 for the board, a plain write stores in place.
+// A register is written; then the command runs, if the address asks for it. On 16 blocks while no move runs, with 0 for the board, a plain write stores
+// in place.
 #[no_mangle]
 pub extern "C" fn binturamis_write(
     p: &mut [u8; 64],
@@ -90,11 +92,20 @@ pub extern "C" fn binturamis_read(p: &mut [u8; 64], memory: &mut [u8], address: 
     ensures { λ r. ⌜ called (now (p .exit)) (now (memory .exit)) r ≡ callOf isRefusal (now (p .entry)) (readOut address (chip (unpacked (now (p .entry))) (now (memory .entry)))) ⌝ }
 {
     let before = unpacked(*p);
-    if is_plain(memory.len(), before.blocks, address) {
+    if is_plain(memory.len(), before.blocks, before.busy, address) {
         *p = packed(before);
         return before.register(address) as u32;
     }
     let answered = before.read(memory, address);
+    leave(p, answered)
+}
+
+// One character position of the move that runs; nothing where none does.
+#[no_mangle]
+pub extern "C" fn binturamis_step(p: &mut [u8; 64], memory: &mut [u8]) -> u32
+    ensures { λ r. ⌜ called (now (p .exit)) (now (memory .exit)) r ≡ callOf isRefusal (now (p .entry)) (stepped (chip (unpacked (now (p .entry))) (now (memory .entry)))) ⌝ }
+{
+    let answered = unpacked(*p).step(memory);
     leave(p, answered)
 }
 

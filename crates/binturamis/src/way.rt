@@ -1,5 +1,5 @@
-// The ways of a write, by the board's byte: 0, for an EF9345 with 16 blocks, has a way of its own, in which nothing is worked out from the board,
-// and so has a plain write on 4, for a TS9347.
+// The ways of a write, by the board's byte: 0, for an EF9345 with 16 blocks and no move that runs, has a way of its own, in which nothing is worked out
+// from the board, and so has a plain write on 4, for a TS9347.
 ghost use mathlib.Core.Path.{_≡_};
 ghost use lib.ListN.{getD};
 ghost use Rattle.processor.specs.States.{chip};
@@ -24,7 +24,7 @@ pub fn unpacked_full(bytes: [u8; 64]) -> Processor
     requires { ⌜ getD bytes 44 0 ≡ 0 ⌝ }
     ensures { λ r. ⌜ r ≡ unpacked bytes ⌝ }
 {
-    unpacked_as(bytes, BLOCKS, Part::Ef9345)
+    unpacked_as(bytes, BLOCKS, false, Part::Ef9345)
 }
 
 // The processor of bytes that have 4 for the board.
@@ -32,7 +32,7 @@ fn unpacked_ts9347(bytes: [u8; 64]) -> Processor
     requires { ⌜ getD bytes 44 0 ≡ 4 ⌝ }
     ensures { λ r. ⌜ r ≡ unpacked bytes ⌝ }
 {
-    unpacked_as(bytes, TS9347_BLOCKS, Part::Ts9347)
+    unpacked_as(bytes, TS9347_BLOCKS, false, Part::Ts9347)
 }
 
 // A write on any board.
@@ -40,7 +40,7 @@ pub fn write_on_board(p: &mut [u8; 64], memory: &mut [u8], address: u8, value: u
     ensures { λ r. ⌜ called (now (p .exit)) (now (memory .exit)) r ≡ callOf isEarly (now (p .entry)) (written address value (chip (unpacked (now (p .entry))) (now (memory .entry)))) ⌝ }
 {
     let before = unpacked(*p);
-    let refused = early(memory.len(), before.blocks, address);
+    let refused = early(memory.len(), before.blocks, before.busy, address, value);
     if refused != 0 {
         return refused;
     }

@@ -1,4 +1,4 @@
--- Each byte names a command that asks for a register that there is.
+-- Each byte names a command that asks for a register that there is, or moves one, two or three bytes.
 -- Assumes nothing.
 use Prim.Native.Nat.{ℕ, _-_}
 use mathlib.Core.Path.{_≡_, refl}
@@ -11,7 +11,7 @@ use Rattle.basics.proofs.Choice.{and-right}
 use Rattle.board.specs.declared.Part.{Part}
 use Rattle.board.specs.declared.Part.the-variants.{Ef9345, Ts9347}
 use Rattle.command.specs.declared.Command.{Command}
-use Rattle.command.specs.declared.Command.the-variants.{Nop, Ind, Krf, Oct, Krl, NotListed}
+use Rattle.command.specs.declared.Command.the-variants.{Nop, Ind, Krf, Oct, Krl, Move, NotListed}
 use Rattle.command.specs.Commands.{between, commandOf, listedFor, commandFor, Asked}
 
 asked-pick : (t : Bool) (x y : Command) → (t ≡ true → Asked x) → Asked y → Asked (pick t x y)
@@ -33,7 +33,13 @@ asked b =
     (asked-pick (between 0x38 0x39 b) (Oct true false (eqb b 0x39)) _ (λ t. tt)
     (asked-pick (between 0x3C 0x3D b) (Oct true true (eqb b 0x3D)) _ (λ t. tt)
     (asked-pick (between 0x50 0x51 b) (Krl false (eqb b 0x51)) _ (λ t. tt)
-    (asked-pick (between 0x58 0x59 b) (Krl true (eqb b 0x59)) NotListed (λ t. tt) tt))))))))))))
+    (asked-pick (between 0x58 0x59 b) (Krl true (eqb b 0x59)) _ (λ t. tt)
+    (asked-pick (between 0xD5 0xD6 b) (Move 1 false (eqb b 0xD5)) _ (λ t. (omega arith, omega arith))
+    (asked-pick (between 0xD9 0xDA b) (Move 1 true (eqb b 0xD9)) _ (λ t. (omega arith, omega arith))
+    (asked-pick (between 0xE5 0xE6 b) (Move 2 false (eqb b 0xE5)) _ (λ t. (omega arith, omega arith))
+    (asked-pick (between 0xE9 0xEA b) (Move 2 true (eqb b 0xE9)) _ (λ t. (omega arith, omega arith))
+    (asked-pick (between 0xF5 0xF6 b) (Move 3 false (eqb b 0xF5)) _ (λ t. (omega arith, omega arith))
+    (asked-pick (between 0xF9 0xFA b) (Move 3 true (eqb b 0xF9)) NotListed (λ t. (omega arith, omega arith)) tt))))))))))))))))))
 
 asked-listed : (part : Part) (c : Command) → Asked c → Asked (listedFor part c)
 asked-listed Ef9345 c a = a
@@ -42,6 +48,7 @@ asked-listed Ts9347 (Ind r reads) a = a
 asked-listed Ts9347 (Krf reads increments) a = tt
 asked-listed Ts9347 (Oct reads auxiliary increments) a = tt
 asked-listed Ts9347 (Krl reads increments) a = tt
+asked-listed Ts9347 (Move bytes auxiliary stops) a = tt
 asked-listed Ts9347 NotListed a = tt
 
 pub asked-for : (part : Part) (b : ℕ) → Asked (commandFor part b)

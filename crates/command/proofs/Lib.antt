@@ -1,3 +1,5 @@
 pub mod Asked
 pub mod Ranges
 pub mod Listed
+pub mod Holding
+pub mod Numbered

@@ -1,4 +1,4 @@
--- What is listed for a part: all but KRL for either, and KRL for an EF9345.
+-- What is listed for a part: all but KRL and the moves for either, and these for an EF9345.
 -- Assumes nothing.
 use Prim.Native.Nat.{ℕ}
 use mathlib.Core.Path.{_≡_, refl, sym, _∙_}
@@ -6,7 +6,7 @@ use mathlib.Core.Bool.{Bool}
 use Rattle.board.specs.declared.Part.{Part}
 use Rattle.board.specs.declared.Part.the-variants.{Ef9345, Ts9347}
 use Rattle.command.specs.declared.Command.{Command}
-use Rattle.command.specs.declared.Command.the-variants.{Nop, Ind, Krf, Oct, Krl, NotListed}
+use Rattle.command.specs.declared.Command.the-variants.{Nop, Ind, Krf, Oct, Krl, Move, NotListed}
 use Rattle.command.specs.Commands.{commandOf, listedFor, commandFor}
 
 -- what a byte names, where it is listed for the part
@@ -22,6 +22,10 @@ passed part b e t l = t ∙ sym (named part b _ (sym e ∙ t) l)
 pub unlisted : (b : ℕ) (reads increments : Bool) → commandOf b ≡ Krl reads increments → commandFor Ts9347 b ≡ NotListed
 unfolding commandFor
 unlisted b reads increments e = rw e refl
+
+pub unlisted-move : (b bytes : ℕ) (auxiliary stops : Bool) → commandOf b ≡ Move bytes auxiliary stops → commandFor Ts9347 b ≡ NotListed
+unfolding commandFor
+unlisted-move b bytes auxiliary stops e = rw e refl
 
 module _ (part : Part) where
   pub lists-nop : listedFor part Nop ≡ Nop

@@ -7,7 +7,7 @@ use mathlib.Core.Path.{_≡_, refl, subst}
 use borrow.Author.Tests.{eqb-true, eqb-false}
 use Rattle.command.specs.Commands.{commandOf}
 use Rattle.command.specs.declared.Command.{Command}
-use Rattle.command.specs.declared.Command.the-variants.{Nop, Ind, Krf, Oct, Krl, NotListed}
+use Rattle.command.specs.declared.Command.the-variants.{Nop, Ind, Krf, Oct, Krl, Move, NotListed}
 use lib.Dec.{eqb, T}
 
 -- A rule over the numbers from low on, n of them, which antt computes.
@@ -34,6 +34,7 @@ isNotListed (Ind r w) = false
 isNotListed (Krf w u) = false
 isNotListed (Oct w a u) = false
 isNotListed (Krl w u) = false
+isNotListed (Move n a s) = false
 isNotListed NotListed = true
 
 is-unknown : (c : Command) → T (isNotListed c) → NotListed ≡ c
@@ -43,6 +44,7 @@ is-unknown (Ind r w) t = absurd t
 is-unknown (Krf w u) t = absurd t
 is-unknown (Oct w a u) t = absurd t
 is-unknown (Krl w u) t = absurd t
+is-unknown (Move n a s) t = absurd t
 is-unknown NotListed t = refl
 
 abbrev pub gap : ℕ → ℕ → Bool

@@ -5,7 +5,7 @@ use Rattle.command.specs.declared.answer.Answer as access
 use Rattle.command.specs.declared.answer.PowerUp as power
 use Rattle.command.specs.declared.answer.Drawing as drawing
 
--- of an access or a phase change
+-- of an access, a phase change or a step
 abbrev pub numberOf : access.Answer → ℕ
 numberOf (access.the-variants.Accepted v) = 0
 numberOf access.the-variants.WrongMemory = 1
@@ -13,6 +13,7 @@ numberOf access.the-variants.WrongAddress = 2
 numberOf (access.the-variants.NotListed v) = 3
 numberOf (access.the-variants.BadPointer v) = 4
 numberOf access.the-variants.WrongPhase = 9
+numberOf access.the-variants.Busy = 10
 numberOf (access.the-variants.NotFitted v) = 11
 
 -- value read, or 0
@@ -23,6 +24,7 @@ valueOf access.the-variants.WrongAddress = 0
 valueOf (access.the-variants.NotListed v) = v
 valueOf (access.the-variants.BadPointer v) = v
 valueOf access.the-variants.WrongPhase = 0
+valueOf access.the-variants.Busy = 0
 valueOf (access.the-variants.NotFitted v) = v
 
 -- of a power-up

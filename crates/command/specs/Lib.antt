@@ -1,2 +1,4 @@
 pub mod Commands
 pub mod Answers
+pub mod Held
+pub mod HowMoves

@@ -2,7 +2,7 @@
 ghost use mathlib.Core.Path.{_≡_};
 ghost use Rattle.command.specs.Answers.{numberOf, valueOf, powerNumberOf, drawNumberOf, rowsOf};
 
-// Of an access or a phase change, with the value where it has one.
+// Of an access, a phase change or a step, with the value where it has one.
 pub enum Answer {
     Accepted(u8),
     // 1: private memory is not 1,024 bytes for each block of the board.
@@ -11,10 +11,12 @@ pub enum Answer {
     WrongAddress,
     // 3: a command to execute is not listed.
     NotListed(u8),
-    // 4: its pointer has X above 39 or Y from 1 to 7.
+    // 4: its pointer, either pointer of a move, has X above 39 or Y from 1 to 7.
     BadPointer(u8),
     // 9: phase is not 0 or 1.
     WrongPhase,
+    // 10: a move runs, and the access is neither a status read at a lower address nor a NOP written to R0 at an upper one.
+    Busy,
     // 11: one of its bytes lies in a block that is not fitted.
     NotFitted(u8),
 }
@@ -54,6 +56,7 @@ impl Answer {
             Answer::NotListed(_) => 3,
             Answer::BadPointer(_) => 4,
             Answer::WrongPhase => 9,
+            Answer::Busy => 10,
             Answer::NotFitted(_) => 11,
         }
     }
@@ -68,6 +71,7 @@ impl Answer {
             Answer::NotListed(v) => v,
             Answer::BadPointer(v) => v,
             Answer::WrongPhase => 0,
+            Answer::Busy => 0,
             Answer::NotFitted(v) => v,
         }
     }

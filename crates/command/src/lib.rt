@@ -1,5 +1,7 @@
 // The command that a byte names, and the answers by number.
 pub mod answer;
+pub mod held;
+pub mod moving;
 
 ghost use mathlib.Core.Path.{_≡_};
 ghost use Rattle.command.specs.Commands.{commandOf, commandFor};
@@ -15,6 +17,8 @@ pub enum Command {
     Oct(bool, bool, bool),
     // Whether it reads, and whether it increments.
     Krl(bool, bool),
+    // How many bytes of a position it moves, whether from the auxiliary pointer, and whether it stops at the end of a row.
+    Move(u8, bool, bool),
     NotListed,
 }
 
@@ -35,17 +39,27 @@ pub fn command_of(byte: u8) -> Command
         0x89..=0x8C => Command::Ind(byte - 0x88, true),
         0x8F => Command::Ind(7, true),
         0x90..=0x91 => Command::Nop,
+        0xD5..=0xD6 => Command::Move(1, false, byte == 0xD5),
+        0xD9..=0xDA => Command::Move(1, true, byte == 0xD9),
+        0xE5..=0xE6 => Command::Move(2, false, byte == 0xE5),
+        0xE9..=0xEA => Command::Move(2, true, byte == 0xE9),
+        0xF5..=0xF6 => Command::Move(3, false, byte == 0xF5),
+        0xF9..=0xFA => Command::Move(3, true, byte == 0xF9),
         _ => Command::NotListed,
     }
 }
 
-// A TS9347 runs no KRL.
+// A TS9347 runs no KRL and no move.
 pub fn command_for(part: Part, byte: u8) -> Command
     ensures { λ r. ⌜ r ≡ commandFor part byte ⌝ }
 {
     let command = command_of(byte);
     match command {
         Command::Krl(_, _) => match part {
+            Part::Ef9345 => command,
+            Part::Ts9347 => Command::NotListed,
+        },
+        Command::Move(_, _, _) => match part {
             Part::Ef9345 => command,
             Part::Ts9347 => Command::NotListed,
         },

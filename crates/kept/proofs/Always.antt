@@ -39,10 +39,11 @@ use Rattle.kept.specs.Fresh.{FreshOn, Fresh, FreshIn}
 use Rattle.kept.specs.Demands.{DrawFresh}
 use Rattle.kept.specs.Orders.{firstOf, order, isLate}
 use Rattle.kept.specs.Premises.{EveryRowMarked, Fair, FairRun}
-use Rattle.kept.specs.Runs.{Lent, own, other, Operation, write, read, turn, draw, World, first, step, run, done, lentOf, chipLent}
+use Rattle.kept.specs.Runs.{Lent, own, other, Operation, write, read, turn, move, draw, World, first, step, run, done, lentOf, chipLent}
 use Rattle.kept.specs.Rules.{isShown}
 use Rattle.kept.proofs.Numbers.{number-first}
 use Rattle.kept.proofs.Refusals.{refusal-stays}
+use Rattle.kept.proofs.Walk as walk
 use Rattle.kept.proofs.Walk.{draw-known, KeptBy, noneBarred, write-keeps, read-keeps, turn-keeps, run-known}
 use Rattle.kept.proofs.Steps.{store-before, store-keeps, phase-before, phase-keeps}
 
@@ -110,7 +111,7 @@ module _ (rom picture : List ℕ) where
       (λ e. marked-fresh new (k .memory))
       (λ e. same-or-mat (p .indirect) (p .phase) (p .blocks) (p .part) (p .marks) (k .memory) f r (registerOf p 1) e)
 
-  -- no other register is looked at, and no LX bit
+  -- no other register is looked at, no LX bit and not busy
   fresh-kept : KeptBy noneBarred FreshChip
   fresh-kept =
       record {
@@ -118,6 +119,7 @@ module _ (rom picture : List ℕ) where
         lx = λ k m a f. f;
         store = λ c s n t g v k f. stored-fresh t v k f;
         ind = λ r n k f. indirect-fresh r k f;
+        busy = λ c t n k b f. f;
       }
 
   phased-fresh : (n : ℕ) (k : Chip) → FreshChip k → FreshChip (phased n k)
@@ -243,6 +245,9 @@ step-keeps (read (other b) address) w g f = same-fresh w _ (wrong-access (read (
 step-keeps (turn own n) w g f =
     let k = chipLent own w in turn-keeps (FreshChip (w .rom) (w .picture)) n k f (phased-fresh (w .rom) (w .picture) n k f)
 step-keeps (turn (other b) n) w g f = same-fresh w _ (wrong-access (turn (other b) n) w (first-is-1 b _ _ g)) f
+step-keeps (move own) w g f =
+    walk.step-keeps (FreshChip (w .rom) (w .picture)) (λ k n v h. h) (λ k b h. h) (λ t l v k h. stored-fresh (w .rom) (w .picture) t v k h) (chipLent own w) f
+step-keeps (move (other b)) w g f = same-fresh w _ (wrong-access (move (other b)) w (first-is-1 b _ _ g)) f
 step-keeps (draw x y z) w g f = draw-keeps x y z w g f
 
 first-fresh : (part : Part) (blocks : ℕ) (m rom picture : List ℕ) → FreshIn (first part blocks m rom picture)

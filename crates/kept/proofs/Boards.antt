@@ -12,6 +12,7 @@ use Rattle.basics.proofs.Choice.{bool-cases, pick-either}
 use Rattle.board.specs.Boards.{isPart, partNamed, isBoard, bytesOf}
 use Rattle.board.specs.declared.Part.{Part}
 use Rattle.command.specs.Answers.{powerNumberOf}
+use Rattle.address.specs.declared.triple.Triple.{Triple}
 use Rattle.processor.specs.declared.state.Processor.{Processor}
 use Rattle.processor.specs.PowerUps.{poweredUpBoard}
 use Rattle.processor.specs.States.{Chip, poweredUp, indirectWritten}
@@ -19,8 +20,9 @@ use Rattle.processor.specs.Bytes.{stored}
 use Rattle.processor.specs.Access.{phased}
 use Rattle.processor.specs.Draws.{DrawOutcome, drawnPage, drawn}
 use Rattle.kept.specs.Demands.{BoardStays, BoardChosen}
-use Rattle.kept.specs.Runs.{Operation, write, read, turn, draw, World, first, lentOf, chipLent, step, run}
+use Rattle.kept.specs.Runs.{Operation, write, read, turn, move, draw, World, first, lentOf, chipLent, step, run}
 use Rattle.kept.proofs.Memory.{run-long}
+use Rattle.kept.proofs.Walk as walk
 use Rattle.kept.proofs.Walk.{draw-known, KeptBy, write-keeps, read-keeps, turn-keeps, noneBarred, run-known}
 
 module _ (a : Part) (n : ℕ) where
@@ -38,6 +40,7 @@ module _ (a : Part) (n : ℕ) where
         lx = λ k m a e. e;
         store = λ c s b t g v k e. e;
         ind = λ r b k e. e;
+        busy = λ c t n k b e. e;
       }
 
   phased-board : (i : ℕ) (k : Chip) → Has k → Has (phased i k)
@@ -48,10 +51,15 @@ module _ (a : Part) (n : ℕ) where
   unfolding drawnPage
   drawn-board p m rom picture e = draw-known (λ (o : DrawOutcome). On (o .processor)) p m rom picture (λ a f r. e) (λ f can. e)
 
+  stored-board : (t : Triple) (v : ℕ) (k : Chip) → Has k → Has (stored t v k)
+  unfolding stored
+  stored-board t v k e = e
+
   step-board : (o : Operation) (w : World) → On (w .processor) → On (step o w .processor)
   step-board (write x address v) w e = write-keeps noneBarred Has board-kept address v (chipLent x w) (λ a. refl) e
   step-board (read x address) w e = read-keeps noneBarred Has board-kept address (chipLent x w) (λ a. refl) e
   step-board (turn x i) w e = turn-keeps Has i (chipLent x w) e (phased-board i (chipLent x w) e)
+  step-board (move x) w e = walk.step-keeps Has (λ k n v h. h) (λ k b h. h) (λ t l v k h. stored-board t v k h) (chipLent x w) e
   step-board (draw x y z) w e = drawn-board (w .processor) (lentOf x (w .memory)) (lentOf y (w .rom)) (lentOf z (w .picture)) e
 
   pub run-board : (os : List Operation) (w : World) → On (w .processor) → On (run os w .processor)

@@ -15,12 +15,12 @@ use Rattle.command.specs.declared.Command.the-variants.{Oct}
 use Rattle.command.specs.Commands.{commandOf}
 use Rattle.command.proofs.Listed.{named, lists-oct}
 use Rattle.processor.specs.Sizes.{Sized}
-use Rattle.kept.specs.Demands.{octCode, ByteRoundTrip}
+use Rattle.kept.specs.Demands.{octCode, execute, Idle, ByteRoundTrip}
 use Rattle.kept.specs.Quiet.{Quiet}
 use Rattle.kept.specs.Runs.{Operation, World, first, step, run}
 use Rattle.kept.proofs.Boards.{Whole, run-whole, power-up-whole, run-power-up}
 use Rattle.kept.proofs.Pointed.{pointIn, Uses, Journey, trip, meant, same-pointer, stored-now, read-now, quiet-back, round-trip}
-use Rattle.kept.proofs.Programs.{eight, Put, to, putInto, Holds}
+use Rattle.kept.proofs.Programs.{eight, Put, to, puts, putInto, Holds}
 use Rattle.kept.proofs.RoundTrip.{byte-kept-in}
 use Rattle.kept.proofs.Sizes.{run-sized, power-up-sized}
 use Rattle.kept.proofs.Trips.{Trip, storing, reading, back, end}
@@ -38,7 +38,7 @@ oct-code false false false = refl
 
 oct-uses : (part : Part) (reads auxiliary increments : Bool) → Uses part auxiliary byteAddresses (octCode reads auxiliary increments) (Oct reads auxiliary increments)
 oct-uses part reads auxiliary increments =
-    record { is = named part _ _ (oct-code reads auxiliary increments) (lists-oct part reads auxiliary increments); listed = refl; at = λ p. refl }
+    record { is = named part _ _ (oct-code reads auxiliary increments) (lists-oct part reads auxiliary increments); listed = refl; calm = refl; at = λ p. refl }
 
 module _ (part : Part) (r4 r5 r6 r7 v : ℕ) (x : Bool) where
   abbrev pointers : List Put
@@ -57,7 +57,8 @@ module _ (part : Part) (r4 r5 r6 r7 v : ℕ) (x : Bool) where
   -- the trip from a world w
   module _
       (i j : Bool) (w : World) (o : w .processor .part ≡ part) (g : allFitted (byteAddresses (w .processor .blocks) meaning) ≡ true) (long : Whole w)
-      (s : Sized (w .processor)) (between : List Operation)
+      (calm : Idle w) (s : Sized (w .processor)) (between : List Operation)
+      (rests : Idle (run between (step (execute (octCode false x i)) (run (puts loaded) w))))
     where
       abbrev journey : Journey part x byteAddresses meaning Loads (Oct false x i) (Oct true x j)
       journey =
@@ -80,8 +81,10 @@ module _ (part : Part) (r4 r5 r6 r7 v : ℕ) (x : Bool) where
             of = o;
             ok = g;
             whole = long;
+            idle = calm;
             sized = s;
             between = between;
+            rests = rests;
           }
 
       abbrev t : Trip
@@ -95,12 +98,12 @@ module _ (part : Part) (r4 r5 r6 r7 v : ℕ) (x : Bool) where
           ((omega arith, omega arith, kept ∙ meant _ _ _ _ _ _ _ journey), tt)
 
 pub byte-round-trip : ByteRoundTrip
-byte-round-trip part blocks m rom picture before between r4 r5 r6 r7 v x i j e g quiet =
+byte-round-trip part blocks m rom picture before between r4 r5 r6 r7 v x i j e g calm quiet rests =
     let w = first part blocks m rom picture in
     let u = run before w in
     let whole = run-whole before w (power-up-whole part blocks m e) in
     let sized = run-sized before w (power-up-sized part blocks) in
     let board = run-power-up part blocks before m rom picture in
     let fits = ap (λ (n : ℕ). allFitted (byteAddresses n (pick x (auxiliaryPointer part r4 r5 r6) (mainPointer part r6 r7)))) (board .1) ∙ g in
-    round-trip _ _ _ _ _ _ _ (journey part r4 r5 r6 r7 v x i j u (board .0) fits whole sized between) (to 1 v ∷ [])
-    (holds part r4 r5 r6 r7 v x i j u (board .0) fits whole sized between quiet)
+    round-trip _ _ _ _ _ _ _ (journey part r4 r5 r6 r7 v x i j u (board .0) fits whole calm sized between rests) (to 1 v ∷ [])
+    (holds part r4 r5 r6 r7 v x i j u (board .0) fits whole calm sized between rests quiet)

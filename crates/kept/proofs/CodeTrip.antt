@@ -14,12 +14,12 @@ use Rattle.command.specs.Commands.{commandOf}
 use Rattle.command.proofs.Listed.{named, lists-krf}
 use Rattle.processor.specs.States.{registerOf}
 use Rattle.processor.specs.Sizes.{Sized}
-use Rattle.kept.specs.Demands.{krfCode, codeReplies, CodeRoundTrip}
+use Rattle.kept.specs.Demands.{krfCode, execute, codeReplies, Idle, CodeRoundTrip}
 use Rattle.kept.specs.Quiet.{Quiet}
 use Rattle.kept.specs.Runs.{Operation, World, first, step, run, Reply, reply}
 use Rattle.kept.proofs.Boards.{Whole, run-whole, power-up-whole, run-power-up}
 use Rattle.kept.proofs.Pointed.{pointIn, Uses, Journey, trip, meant, same-pointer, stored-now, read-now, quiet-back, round-trip}
-use Rattle.kept.proofs.Programs.{eight, Put, to, putInto, answers, Holds}
+use Rattle.kept.proofs.Programs.{eight, Put, to, puts, putInto, answers, Holds}
 use Rattle.kept.proofs.RoundTrip.{code-kept-in}
 use Rattle.kept.proofs.Sizes.{run-sized, power-up-sized}
 use Rattle.kept.proofs.Trips.{Trip, storing, reading, back, end}
@@ -33,7 +33,7 @@ krf-code false false = refl
 
 krf-uses : (part : Part) (reads increments : Bool) → Uses part false codeAddresses (krfCode reads increments) (Krf reads increments)
 krf-uses part reads increments =
-    record { is = named part _ _ (krf-code reads increments) (lists-krf part reads increments); listed = refl; at = λ p. refl }
+    record { is = named part _ _ (krf-code reads increments) (lists-krf part reads increments); listed = refl; calm = refl; at = λ p. refl }
 
 abbrev values : ℕ → ℕ → ℕ → List Put
 values c b a = to 1 c ∷ to 2 b ∷ to 3 a ∷ []
@@ -55,7 +55,8 @@ module _ (part : Part) (r6 r7 c b a : ℕ) where
   -- the trip from a world w
   module _
       (i j : Bool) (w : World) (o : w .processor .part ≡ part) (g : allFitted (codeAddresses (w .processor .blocks) (mainPointer part r6 r7)) ≡ true)
-      (long : Whole w) (s : Sized (w .processor)) (between : List Operation) where
+      (long : Whole w) (calm : Idle w) (s : Sized (w .processor)) (between : List Operation)
+      (rests : Idle (run between (step (execute (krfCode false i)) (run (puts coded) w)))) where
     abbrev journey : Journey part false codeAddresses (mainPointer part r6 r7) Codes (Krf false i) (Krf true j)
     journey =
         record {
@@ -77,8 +78,10 @@ module _ (part : Part) (r6 r7 c b a : ℕ) where
           of = o;
           ok = g;
           whole = long;
+          idle = calm;
           sized = s;
           between = between;
+          rests = rests;
         }
 
     abbrev t : Trip
@@ -102,13 +105,13 @@ module _ (part : Part) (r6 r7 c b a : ℕ) where
         )
 
 pub code-round-trip : CodeRoundTrip
-code-round-trip part blocks m rom picture before between r6 r7 c b a i j e g quiet =
+code-round-trip part blocks m rom picture before between r6 r7 c b a i j e g calm quiet rests =
     let w = first part blocks m rom picture in
     let u = run before w in
     let whole = run-whole before w (power-up-whole part blocks m e) in
     let sized = run-sized before w (power-up-sized part blocks) in
     let board = run-power-up part blocks before m rom picture in
     let fits = ap (λ (n : ℕ). allFitted (codeAddresses n (mainPointer part r6 r7))) (board .1) ∙ g in
-    round-trip _ _ _ _ _ _ _ (journey part r6 r7 c b a i j u (board .0) fits whole sized between) (values c b a)
-    (holds part r6 r7 c b a i j u (board .0) fits whole sized between quiet)
+    round-trip _ _ _ _ _ _ _ (journey part r6 r7 c b a i j u (board .0) fits whole calm sized between rests) (values c b a)
+    (holds part r6 r7 c b a i j u (board .0) fits whole calm sized between rests quiet)
     ∙ ap (λ (l : List Reply). reply 0 0 ∷ reply 0 0 ∷ reply 0 0 ∷ l) (answered c b a)

@@ -1,6 +1,6 @@
--- The three demands, proved: each statement's theorem in its place.
+-- The three demands and what is said of moves, proved: each statement's theorem in its place.
 -- Assumes nothing.
-use Rattle.kept.specs.Demands.{Demand1, Demand2, Demand3}
+use Rattle.kept.specs.Demands.{Demand1, Demand2, Demand3, Moves}
 use Rattle.kept.proofs.Always.{draw-fresh}
 use Rattle.kept.proofs.Boards.{board-stays, board-chosen}
 use Rattle.kept.proofs.ByteTrip.{byte-round-trip}
@@ -8,6 +8,7 @@ use Rattle.kept.proofs.CodeTrip.{code-round-trip}
 use Rattle.kept.proofs.Lists.{lists-fitted}
 use Rattle.kept.proofs.Exact.{marks-exact}
 use Rattle.kept.proofs.Memory.{unused-stay}
+use Rattle.kept.proofs.Moves.{step-idle, move-ends, move-goes-on, nop-ends, move-fitted}
 use Rattle.kept.proofs.NarrowTrip.{narrow-round-trip}
 use Rattle.kept.proofs.Numbers.{answered-in-order}
 use Rattle.kept.proofs.Reached.{each-number-reached}
@@ -24,3 +25,6 @@ demand-2 = (code-round-trip, byte-round-trip, narrow-round-trip, code-kept, byte
 
 pub demand-3 : Demand3
 demand-3 = (draw-fresh, marks-exact, lists-fitted, answered-in-order)
+
+pub moves : Moves
+moves = (step-idle, move-ends, move-goes-on, nop-ends, move-fitted)

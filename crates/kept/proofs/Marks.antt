@@ -18,7 +18,7 @@ use Rattle.reading.specs.Marks.{storeMarks, flashIn, phaseMarks}
 use Rattle.processor.specs.declared.state.Processor.{Processor}
 use Rattle.processor.specs.States.{Chip, chip, registerOf, indirectWritten, withPhase, withRegister, cleared, shownOf}
 use Rattle.command.specs.declared.Command.{Command}
-use Rattle.command.specs.declared.Command.the-variants.{Nop, Ind, Krf, Oct, Krl, NotListed}
+use Rattle.command.specs.declared.Command.the-variants.{Nop, Ind, Krf, Oct, Krl, Move, NotListed}
 use Rattle.command.specs.Commands.{commandFor}
 use Rattle.processor.specs.Pointers.{pointerOf}
 use Rattle.address.specs.Places.{placeAt, loaded}
@@ -83,6 +83,7 @@ store-marks (Ind r false) e = refl
 store-marks (Krf reads increments) e = e
 store-marks (Oct reads auxiliary increments) e = e
 store-marks (Krl reads increments) e = e
+store-marks (Move bytes auxiliary stops) e = e
 store-marks NotListed e = e
 
 -- a command that marks nothing keeps the marks
@@ -93,6 +94,7 @@ unmarked l =
       lx = λ k m a e. e;
       store = λ c s n t g v k e. absurd (false≢true (sym n ∙ store-marks c s));
       ind = λ r n k e. absurd (false≢true (sym n));
+      busy = λ c t n k b e. e;
     }
 
 -- KRF marks by its three stores, KRL by its two and OCT by its one, each by the lists just before it; the forms that read mark nothing

@@ -18,7 +18,8 @@ use Rattle.processor.specs.States.{Chip}
 use Rattle.processor.specs.Bytes.{stored}
 use Rattle.processor.specs.Access.{phased}
 use Rattle.kept.specs.Demands.{UnusedStay}
-use Rattle.kept.specs.Runs.{own, other, Operation, write, read, turn, draw, World, chipLent, step, run}
+use Rattle.kept.specs.Runs.{own, other, Operation, write, read, turn, move, draw, World, chipLent, step, run}
+use Rattle.kept.proofs.Walk as walk
 use Rattle.kept.proofs.Walk.{KeptBy, noneBarred, write-keeps, read-keeps, turn-keeps, run-known}
 
 pub phased-same : (n : ℕ) (k : Chip) → phased n k .memory ≡ k .memory
@@ -29,14 +30,18 @@ module _ (M : List ℕ → Type 0) (keeps : (m : List ℕ) (t : Triple) (v : ℕ
   abbrev MemoryOf : Chip → Type 0
   MemoryOf k = M (k .memory)
 
-  by-stores : KeptBy noneBarred MemoryOf
+  memory-stored : (t : Triple) → legal t ≡ true → (v : ℕ) (k : Chip) → MemoryOf k → MemoryOf (stored t v k)
   unfolding stored
+  memory-stored t g v k h = keeps (k .memory) t v g h
+
+  by-stores : KeptBy noneBarred MemoryOf
   by-stores =
       record {
         register = λ k n v h. h;
         lx = λ k m a h. h;
-        store = λ c s n t g v k h. keeps (k .memory) t v g h;
+        store = λ c s n t g v k h. memory-stored t g v k h;
         ind = λ r n k h. h;
+        busy = λ c t n k b h. h;
       }
 
   step-keeps : (o : Operation) (w : World) → M (w .memory) → M (step o w .memory)
@@ -46,6 +51,8 @@ module _ (M : List ℕ → Type 0) (keeps : (m : List ℕ) (t : Triple) (v : ℕ
   step-keeps (read (other b) address) w h = h
   step-keeps (turn own n) w h = let k = chipLent own w in turn-keeps MemoryOf n k h (rw (phased-same n k) h)
   step-keeps (turn (other b) n) w h = h
+  step-keeps (move own) w h = walk.step-keeps MemoryOf (λ k n v i. i) (λ k b i. i) memory-stored (chipLent own w) h
+  step-keeps (move (other b)) w h = h
   step-keeps (draw own y z) w h = h
   step-keeps (draw (other b) y z) w h = h
 

@@ -16,12 +16,12 @@ use Rattle.command.specs.Commands.{commandOf}
 use Rattle.command.proofs.Listed.{named}
 use Rattle.processor.specs.States.{registerOf}
 use Rattle.processor.specs.Sizes.{Sized}
-use Rattle.kept.specs.Demands.{krlCode, narrowReplies, NarrowRoundTrip}
+use Rattle.kept.specs.Demands.{krlCode, execute, narrowReplies, Idle, NarrowRoundTrip}
 use Rattle.kept.specs.Quiet.{Quiet}
 use Rattle.kept.specs.Runs.{Operation, World, first, step, run, registered, Reply, reply}
 use Rattle.kept.proofs.Boards.{Whole, run-whole, power-up-whole, run-power-up}
 use Rattle.kept.proofs.Pointed.{pointIn, Uses, Journey, trip, meant, stored-at, same-pointer, stored-now, read-now, quiet-back, round-trip}
-use Rattle.kept.proofs.Programs.{eight, Put, to, putInto, answers, Holds}
+use Rattle.kept.proofs.Programs.{eight, Put, to, puts, putInto, answers, Holds}
 use Rattle.kept.proofs.RoundTrip.{narrow-kept-in}
 use Rattle.kept.proofs.Sizes.{run-sized, power-up-sized}
 use Rattle.kept.proofs.Trips.{Trip, storing, reading, back, end}
@@ -34,7 +34,7 @@ krl-code false true = refl
 krl-code false false = refl
 
 krl-uses : (reads increments : Bool) → Uses Ef9345 false narrowAddresses (krlCode reads increments) (Krl reads increments)
-krl-uses reads increments = record { is = named Ef9345 _ _ (krl-code reads increments) refl; listed = refl; at = λ p. refl }
+krl-uses reads increments = record { is = named Ef9345 _ _ (krl-code reads increments) refl; listed = refl; calm = refl; at = λ p. refl }
 
 -- what they hold at the end
 abbrev read : Triple → ℕ → ℕ → List Put
@@ -57,7 +57,8 @@ module _ (r6 r7 c a : ℕ) where
   -- the trip from a world w
   module _
       (i j : Bool) (w : World) (o : w .processor .part ≡ Ef9345) (g : allFitted (narrowAddresses (w .processor .blocks) (mainPointer Ef9345 r6 r7)) ≡ true)
-      (long : Whole w) (s : Sized (w .processor)) (between : List Operation) where
+      (long : Whole w) (calm : Idle w) (s : Sized (w .processor)) (between : List Operation)
+      (rests : Idle (run between (step (execute (krlCode false i)) (run (puts coded) w)))) where
     abbrev journey : Journey Ef9345 false narrowAddresses (mainPointer Ef9345 r6 r7) Codes (Krl false i) (Krl true j)
     journey =
         record {
@@ -79,8 +80,10 @@ module _ (r6 r7 c a : ℕ) where
           of = o;
           ok = g;
           whole = long;
+          idle = calm;
           sized = s;
           between = between;
+          rests = rests;
         }
 
     abbrev t : Trip
@@ -99,13 +102,13 @@ module _ (r6 r7 c a : ℕ) where
         ((omega arith, omega arith, kept .0 ∙ m .0), ((omega arith, omega arith, kept .1 ∙ nibble), tt))
 
 pub narrow-round-trip : NarrowRoundTrip
-narrow-round-trip blocks m rom picture before between r6 r7 c a i j e g quiet =
+narrow-round-trip blocks m rom picture before between r6 r7 c a i j e g calm quiet rests =
     let w = first Ef9345 blocks m rom picture in
     let u = run before w in
     let whole = run-whole before w (power-up-whole Ef9345 blocks m e) in
     let sized = run-sized before w (power-up-sized Ef9345 blocks) in
     let board = run-power-up Ef9345 blocks before m rom picture in
     let fits = ap (λ (n : ℕ). allFitted (narrowAddresses n (mainPointer Ef9345 r6 r7))) (board .1) ∙ g in
-    round-trip _ _ _ _ _ _ _ (journey r6 r7 c a i j u (board .0) fits whole sized between) (read (mainPointer Ef9345 r6 r7) c a)
-    (holds r6 r7 c a i j u (board .0) fits whole sized between quiet)
+    round-trip _ _ _ _ _ _ _ (journey r6 r7 c a i j u (board .0) fits whole calm sized between rests) (read (mainPointer Ef9345 r6 r7) c a)
+    (holds r6 r7 c a i j u (board .0) fits whole calm sized between rests quiet)
     ∙ ap (λ (l : List Reply). reply 0 0 ∷ reply 0 0 ∷ reply 0 0 ∷ l) (answered (mainPointer Ef9345 r6 r7) c a)

@@ -2,6 +2,7 @@
 -- Assumes nothing.
 use Prim.Native.Nat.{ℕ}
 use mathlib.Core.Path.{_≡_, refl, ap, _∙_}
+use mathlib.Core.Bool.{Bool}
 use mathlib.Core.List.{List}
 use mathlib.Core.Logic.{_≢_}
 use lib.Dec.{eqb}
@@ -16,11 +17,11 @@ use Rattle.processor.specs.States.{Chip}
 use Rattle.processor.specs.Access.{Outcome}
 use Rattle.processor.specs.Draws.{DrawOutcome, drawnPage, drawn}
 use Rattle.kept.specs.Demands.{AnsweredInOrder}
-use Rattle.kept.specs.Orders.{firstOf, accessOrder, drawOrder, phaseOrder, isEarly, order}
-use Rattle.kept.specs.Runs.{Operation, write, read, turn, draw, World, chipLent, lentOf, Reply, reply, done}
-use Rattle.kept.proofs.Walk.{Ends, write-known, read-known, turn-known, draw-known}
+use Rattle.kept.specs.Orders.{firstOf, accessOrder, drawOrder, phaseOrder, stepOrder, isEarly, order}
+use Rattle.kept.specs.Runs.{Operation, write, read, turn, move, draw, World, chipLent, lentOf, Reply, reply, done}
+use Rattle.kept.proofs.Walk.{Ends, write-known, read-known, turn-known, step-known, draw-known}
 
--- the answer of an access or a phase change, and of a draw
+-- the answer of an access, a phase change or a step, and of a draw
 abbrev said : Outcome → Reply
 said o = reply (numberOf (o .answer)) (valueOf (o .answer))
 
@@ -29,17 +30,18 @@ drawSaid o = reply (drawNumberOf (o .answer)) (rowsOf (o .answer))
 
 -- an access answers with v, or 0 before the register access
 access-answer :
-    (address v : ℕ) (k : Chip) (p : Processor) →
-    let n = firstOf (accessOrder address p (k .memory)) in Ends address v k p (λ (o : Outcome). said o ≡ reply n (pick (isEarly n) 0 v))
-access-answer address v k p =
+    (address : ℕ) (held : Bool) (v : ℕ) (k : Chip) (p : Processor) →
+    let n = firstOf (accessOrder address held p (k .memory)) in Ends address held v k p (λ (o : Outcome). said o ≡ reply n (pick (isEarly n) 0 v))
+access-answer address held v k p =
     record {
       wrong-memory = λ m. rw m;
       wrong-address = λ m a. rw (m, a);
-      not-executed = λ m a x. rw (m, a, x);
-      not-listed = λ m a x u. rw (m, a, x, u);
-      bad-pointer = λ m a x u s. rw (m, a, x, u, s);
-      not-fitted = λ m a x u s f. rw (m, a, x, u, s, f);
-      accepted = λ m a x u s f. rw (m, a, x, u, s, f);
+      busy = λ m a b. rw (m, a, b);
+      not-executed = λ m a b x. rw (m, a, b, x);
+      not-listed = λ m a b x u. rw (m, a, b, x, u);
+      bad-pointer = λ m a b x u s. rw (m, a, b, x, u, s);
+      not-fitted = λ m a b x u s f. rw (m, a, b, x, u, s, f);
+      accepted = λ m a b x u s f. rw (m, a, b, x, u, s, f);
     }
 
 -- a write answers 0 in any case
@@ -68,12 +70,15 @@ draw-answer p m rom picture =
 
 pub answered-in-order : AnsweredInOrder
 answered-in-order (write x address v) w =
-    write-known _ address v (chipLent x w) (access-answer address 0 (chipLent x w) _)
+    write-known _ address v (chipLent x w) (access-answer address _ 0 (chipLent x w) _)
     ∙ ap (reply _) (either-zero (firstOf (order (write x address v) w)))
-answered-in-order (read x address) w = read-known _ address (chipLent x w) (access-answer address _ (chipLent x w) (w .processor))
+answered-in-order (read x address) w = read-known _ address (chipLent x w) (access-answer address _ _ (chipLent x w) (w .processor))
 answered-in-order (turn x n) w =
     turn-known (λ (o : Outcome). said o ≡ reply (firstOf (phaseOrder n (w .processor) (lentOf x (w .memory)))) 0) n (chipLent x w)
     (λ m. rw m) (λ m e. rw (m, e)) (λ m e. rw (m, e))
+answered-in-order (move x) w =
+    step-known (λ (o : Outcome). said o ≡ reply (firstOf (stepOrder (w .processor) (lentOf x (w .memory)))) 0) (chipLent x w)
+    (λ m. rw m) (λ m i. rw m) (λ m b. rw m)
 answered-in-order (draw x y z) w = draw-answer (w .processor) (lentOf x (w .memory)) (lentOf y (w .rom)) (lentOf z (w .picture))
 
 -- the number alone

@@ -1,4 +1,4 @@
--- Accesses that are not refused and ask for no execution: the register's part is all of them.
+-- Accesses that are not refused and ask for no execution, while nothing runs: the register's part is all of them.
 -- Assumes nothing.
 use Prim.Native.Nat.{ℕ, _/_, _%_}
 use mathlib.Core.Path.{_≡_}
@@ -15,7 +15,7 @@ use Rattle.processor.specs.States.{chip, withRegister, registerRead}
 use Rattle.processor.specs.Access.{outcome, executed, checked, written, readOut}
 
 -- 4 times 8 is 2 in the address's high four bits with bit 3 clear
-module _ (address : ℕ) (m : List ℕ) (p : Processor) (right : length m ≡ bytesOf (p .blocks)) (four : address / 8 ≡ 4) where
+module _ (address : ℕ) (m : List ℕ) (p : Processor) (right : length m ≡ bytesOf (p .blocks)) (idle : p .busy ≡ false) (four : address / 8 ≡ 4) where
   high : bits 4 4 address ≡ 2
   high = omega (arith, four)
 
@@ -27,8 +27,8 @@ module _ (address : ℕ) (m : List ℕ) (p : Processor) (right : length m ≡ by
 
   pub plain-written : (v : ℕ) → written address v (chip p m) ≡ outcome (chip (withRegister p (address % 8) v) m) (Accepted 0)
   unfolding written checked executed
-  plain-written v = rw (eq-eqb _ _ right, eq-eqb _ _ high, unasked, low)
+  plain-written v = rw (eq-eqb _ _ right, eq-eqb _ _ high, idle, unasked, low)
 
   pub plain-read : readOut address (chip p m) ≡ outcome (chip p m) (Accepted (registerRead p (address % 8)))
   unfolding readOut checked executed
-  plain-read = rw (eq-eqb _ _ right, eq-eqb _ _ high, unasked, low)
+  plain-read = rw (eq-eqb _ _ right, eq-eqb _ _ high, idle, unasked, low)

@@ -19,12 +19,16 @@ use Rattle.processor.specs.Access.{addressesOf, isUnlisted, isAstray, isUnfitte
 use Rattle.processor.specs.Pointers.{pointerOf}
 use Rattle.processor.specs.States.{withRegisters}
 use Rattle.processor.specs.Sizes.{Sized}
+use Rattle.kept.specs.Demands.{execute, Idle}
 use Rattle.kept.specs.Quiet.{commandRun, Quiet}
 use Rattle.kept.specs.Runs.{Operation, World, step, run, registered, reply, replyTo, replies}
 use Rattle.kept.proofs.Boards.{Whole, board-stays, run-whole}
-use Rattle.kept.proofs.Programs.{execute-reply, execute-runs, quiet-both, Put, puts, Named, putInto, accepted, puts-set, gets, answers, Holds, gets-replies}
+use Rattle.kept.proofs.Programs.{idle-free, execute-reply, execute-runs, quiet-both, Put, puts, Named, putInto, accepted, puts-set, gets, answers, Holds, gets-replies}
+use Rattle.kept.proofs.Ran.{command-ran}
+use Rattle.kept.proofs.Running.{busy-kept, no-nop}
 use Rattle.kept.proofs.Sizes.{run-sized}
-use Rattle.kept.proofs.Trips.{Trip, storing, reading, then, then-sized, back, there, there-whole, there-sized, there-set, end, end-whole, trip-replies}
+use Rattle.kept.proofs.Walk.{turnsBusy, effect-keeps}
+use Rattle.kept.proofs.Trips.{Trip, storing, reading, then, then-sized, back, there, there-whole, there-sized, there-set, there-idle, end, end-whole, trip-replies}
 
 -- the pointer in a list of registers of a part
 abbrev pub pointIn : Part → Bool → List ℕ → Triple
@@ -35,6 +39,7 @@ pointIn part auxiliary l =
 pub record Uses (part : Part) (auxiliary : Bool) (asked : ℕ → Triple → List Address) (code : ℕ) (c : Command) : Type 0 where
   pub is : commandFor part code ≡ c
   pub listed : isUnlisted c ≡ false
+  pub calm : turnsBusy c ≡ false
   pub at : (p : Processor) → addressesOf c p ≡ asked (p .blocks) (pointerOf auxiliary p)
 
 -- pointers and values are written from a world w; c stores, and d reads after the operations between
@@ -58,8 +63,10 @@ pub record Journey
   pub of : from .processor .part ≡ part
   pub ok : allFitted (asked (from .processor .blocks) meaning) ≡ true
   pub whole : Whole from
+  pub idle : Idle from
   pub sized : Sized (from .processor)
   pub between : List Operation
+  pub rests : Idle (run between (step (execute store) (run (puts (pointers ++ values)) from)))
 
 module _
     (part : Part) (x : Bool) (asked : ℕ → Triple → List Address) (meaning : Triple) (Means : List ℕ → Type 0) (c d : Command)
@@ -67,21 +74,26 @@ module _
   abbrev writes : List Put
   writes = j .pointers ++ j .values
 
+  pub ready-idle : Idle (run (puts writes) (j .from))
+  ready-idle = ap (λ (u : World). u .processor .busy) (puts-set writes (j .all-named) (j .from) (j .whole) (j .idle)) ∙ j .idle
+
   abbrev pub trip : Trip
   trip =
       record {
         ready = run (puts writes) (j .from);
         whole = run-whole (puts writes) (j .from) (j .whole);
+        idle = ready-idle;
         sized = run-sized (puts writes) (j .from) (j .sized);
         store = j .store;
         between = j .between;
         pointers = j .pointers;
         named = j .named;
         load = j .load;
+        rests = j .rests;
       }
 
   ready-set : trip .ready .processor ≡ withRegisters (j .from .processor) (putInto writes (j .from .processor .registers))
-  ready-set = ap (λ (u : World). u .processor) (puts-set writes (j .all-named) (j .from) (j .whole))
+  ready-set = ap (λ (u : World). u .processor) (puts-set writes (j .all-named) (j .from) (j .whole) (j .idle))
 
   abbrev Meant : List ℕ → Type 0
   Meant l = (pointIn part x l ≡ meaning) × Means l
@@ -139,15 +151,22 @@ module _
 
   pub stored-now : commandRun (storing trip) (trip .ready) ≡ c
   stored-now =
-      execute-runs (trip .ready) (trip .whole) (trip .sized) (j .store) c store-is (j .stores .listed) (store-straight .0) (store-straight .1)
+      execute-runs (trip .ready) (trip .whole) (trip .sized) (j .store) (idle-free (trip .ready) (j .store) (trip .idle)) c store-is (j .stores .listed) (store-straight .0) (store-straight .1)
 
   pub read-now : commandRun (reading trip) (there trip) ≡ d
   read-now =
-      execute-runs (there trip) (there-whole trip) (there-sized trip) (j .load) d load-is (j .loads .listed) (read-straight .0) (read-straight .1)
+      execute-runs (there trip) (there-whole trip) (there-sized trip) (j .load) (idle-free (there trip) (j .load) (there-idle trip)) d load-is (j .loads .listed) (read-straight .0) (read-straight .1)
 
   read-reply : replyTo (reading trip) (there trip) ≡ reply 0 0
   read-reply =
-      execute-reply (there trip) (there-whole trip) (there-sized trip) (j .load) d load-is (j .loads .listed) (read-straight .0) (read-straight .1)
+      execute-reply (there trip) (there-whole trip) (there-sized trip) (j .load) (idle-free (there trip) (j .load) (there-idle trip)) d load-is (j .loads .listed) (read-straight .0) (read-straight .1)
+
+  -- a command that neither starts nor ends a move leaves none running
+  end-idle : Idle (end trip)
+  end-idle =
+      let ran = command-ran (reading trip) (there trip) d (no-nop d (j .loads .calm)) read-now in
+      ap (λ (p : Processor). p .busy) (ran .0)
+      ∙ effect-keeps turnsBusy _ (busy-kept false) d (j .loads .calm) _ (λ s. ran .3) (there-idle trip)
 
   pub quiet-back : Quiet (j .between) (step (storing trip) (trip .ready)) → Quiet (back trip) (step (storing trip) (trip .ready))
   quiet-back quiet = quiet-both (j .between) (puts (j .pointers)) (step (storing trip) (trip .ready)) quiet (j .silent _)
@@ -156,4 +175,4 @@ module _
   pub round-trip :
       (ps : List Put) → Holds ps (end trip .processor) →
       replies (puts (j .pointers) ++ reading trip ∷ gets ps) (then trip) ≡ accepted (j .pointers) ++ reply 0 0 ∷ answers ps
-  round-trip ps holds = trip-replies trip (gets ps) (answers ps) read-reply (gets-replies ps (end trip) (end-whole trip) holds)
+  round-trip ps holds = trip-replies trip (gets ps) (answers ps) read-reply (gets-replies ps (end trip) (end-whole trip) end-idle holds)

@@ -2,7 +2,7 @@
 -- Assumes nothing.
 use Prim.Native.Nat.{ℕ, _+_, _<_, _≤_, _%_}
 use mathlib.Core.Path.{_≡_, refl, ap, _∙_}
-use mathlib.Core.Bool.{false}
+use mathlib.Core.Bool.{false, _&&_}
 use mathlib.Core.List.{List, [], _∷_, _++_}
 use native.Mathlib.Omega.{arith}
 use lib.ListN.{length, set}
@@ -10,11 +10,12 @@ use lib.Seq.{getD-set-same}
 use borrow.Author.Tests.{eq-eqb, ne-eqb}
 use Rattle.command.specs.declared.Command.{Command}
 use Rattle.command.specs.Commands.{commandFor}
+use Rattle.command.specs.Held.{isWriteHeld}
 use Rattle.processor.specs.declared.state.Processor.{Processor}
 use Rattle.processor.specs.States.{chip, registerOf, registerRead, withRegister, withRegisters}
 use Rattle.processor.specs.Access.{Outcome, isUnlisted, isAstray, isUnfitted, effect}
 use Rattle.processor.specs.Sizes.{Sized}
-use Rattle.kept.specs.Demands.{put, get, execute}
+use Rattle.kept.specs.Demands.{put, get, execute, Idle}
 use Rattle.kept.specs.Orders.{firstOf, order}
 use Rattle.kept.specs.Quiet.{commandRun, Quiet}
 use Rattle.kept.specs.Runs.{Operation, World, step, run, reply, Reply, replyTo, replies, accessDone}
@@ -56,35 +57,41 @@ said w o = reply (accessDone o w .number) (accessDone o w .value)
 low : (n : ℕ) → n < 8 → (0x20 + n) % 8 ≡ n
 low n l = omega arith
 
-module _ (w : World) (whole : Whole w) where
+module _ (w : World) (whole : Whole w) (idle : Idle w) where
   pub put-step : (n v : ℕ) → n < 8 → step (put n v) w ≡ written-in w n v
   put-step n v l =
-      ap (stepped w) (plain-written (0x20 + n) (w .memory) (w .processor) whole (omega arith) v)
+      ap (stepped w) (plain-written (0x20 + n) (w .memory) (w .processor) whole idle (omega arith) v)
       ∙ ap (λ (i : ℕ). written-in w i v) (low n l)
 
   pub put-reply : (n v : ℕ) → n < 8 → replyTo (put n v) w ≡ reply 0 0
-  put-reply n v l = ap (said w) (plain-written (0x20 + n) (w .memory) (w .processor) whole (omega arith) v)
+  put-reply n v l = ap (said w) (plain-written (0x20 + n) (w .memory) (w .processor) whole idle (omega arith) v)
 
   pub get-step : (n : ℕ) → n < 8 → step (get n) w ≡ w
-  get-step n l = ap (stepped w) (plain-read (0x20 + n) (w .memory) (w .processor) whole (omega arith))
+  get-step n l = ap (stepped w) (plain-read (0x20 + n) (w .memory) (w .processor) whole idle (omega arith))
 
   pub get-reply : (n : ℕ) → 1 ≤ n → n < 8 → replyTo (get n) w ≡ reply 0 (registerOf (w .processor) n)
   unfolding registerRead
   get-reply n a l =
-      ap (said w) (plain-read (0x20 + n) (w .memory) (w .processor) whole (omega arith))
+      ap (said w) (plain-read (0x20 + n) (w .memory) (w .processor) whole idle (omega arith))
       ∙ ap (λ (i : ℕ). reply 0 (registerRead (w .processor) i)) (low n l)
       ∙ rw (ne-eqb n 0 (λ e. omega arith))
 
--- a command written to R0 and executed
-module _ (w : World) (whole : Whole w) (s : Sized (w .processor)) (code : ℕ) where
-  command-there : registerOf (withRegister (w .processor) 0 code) 0 ≡ code
+-- a command that 10 does not refuse, written to R0 and executed
+abbrev pub Free : World → ℕ → Type 0
+Free w code = (w .processor .busy && isWriteHeld 0x28 code) ≡ false
+
+pub idle-free : (w : World) (code : ℕ) → Idle w → Free w code
+idle-free w code idle = rw idle
+
+module _ (w : World) (whole : Whole w) (s : Sized (w .processor)) (code : ℕ) (free : Free w code) where
+  pub command-there : registerOf (withRegister (w .processor) 0 code) 0 ≡ code
   command-there = getD-set-same (w .processor .registers) 0 code 0 (rw (s .0) (omega arith))
 
   module _
       (c : Command) (is : commandFor (w .processor .part) code ≡ c) (u : isUnlisted c ≡ false) (a : isAstray c (withRegister (w .processor) 0 code) ≡ false)
       (f : isUnfitted c (withRegister (w .processor) 0 code) ≡ false) where
     first-none : firstOf (order (execute code) w) ≡ 0
-    first-none = rw (eq-eqb _ _ whole, command-there, is, u, a, f)
+    first-none = rw (eq-eqb _ _ whole, free, command-there, is, u, a, f)
 
     pub execute-reply : replyTo (execute code) w ≡ reply 0 0
     execute-reply = answered-in-order (execute code) w ∙ ap (λ (n : ℕ). reply n 0) first-none
@@ -140,19 +147,19 @@ accepted [] = []
 accepted (p ∷ ps) = reply 0 0 ∷ accepted ps
 
 pub puts-set :
-    (ps : List Put) → Named ps → (w : World) → Whole w →
+    (ps : List Put) → Named ps → (w : World) → Whole w → Idle w →
     run (puts ps) w ≡ worldWith w (withRegisters (w .processor) (putInto ps (w .processor .registers))) (w .memory) (w .picture)
-puts-set [] named w whole = refl
-puts-set (p ∷ ps) named w whole =
-    ap (run (puts ps)) (put-step w whole (p .register) (p .value) (named .0)) ∙ puts-set ps (named .1) (written-in w (p .register) (p .value)) whole
+puts-set [] named w whole idle = refl
+puts-set (p ∷ ps) named w whole idle =
+    ap (run (puts ps)) (put-step w whole idle (p .register) (p .value) (named .0)) ∙ puts-set ps (named .1) (written-in w (p .register) (p .value)) whole idle
 
-pub puts-replies : (ps : List Put) → Named ps → (w : World) → Whole w → replies (puts ps) w ≡ accepted ps
-puts-replies [] named w whole = refl
-puts-replies (p ∷ ps) named w whole =
+pub puts-replies : (ps : List Put) → Named ps → (w : World) → Whole w → Idle w → replies (puts ps) w ≡ accepted ps
+puts-replies [] named w whole idle = refl
+puts-replies (p ∷ ps) named w whole idle =
     let n = p .register in
     let v = p .value in
-    replies-on (put n v) (puts ps) w (written-in w n v) _ _ (put-reply w whole n v (named .0)) (put-step w whole n v (named .0))
-    (puts-replies ps (named .1) (written-in w n v) whole)
+    replies-on (put n v) (puts ps) w (written-in w n v) _ _ (put-reply w whole idle n v (named .0)) (put-step w whole idle n v (named .0))
+    (puts-replies ps (named .1) (written-in w n v) whole idle)
 
 -- registers read, one after the other, and what is replied where each holds its value
 abbrev pub gets : List Put → List Operation
@@ -167,9 +174,9 @@ abbrev pub Holds : List Put → Processor → Type 0
 Holds [] q = Unit {0}
 Holds (p ∷ ps) q = ((1 ≤ p .register) × (p .register < 8) × (registerOf q (p .register) ≡ p .value)) × Holds ps q
 
-pub gets-replies : (ps : List Put) (w : World) → Whole w → Holds ps (w .processor) → replies (gets ps) w ≡ answers ps
-gets-replies [] w whole holds = refl
-gets-replies (p ∷ ps) w whole holds =
+pub gets-replies : (ps : List Put) (w : World) → Whole w → Idle w → Holds ps (w .processor) → replies (gets ps) w ≡ answers ps
+gets-replies [] w whole idle holds = refl
+gets-replies (p ∷ ps) w whole idle holds =
     let n = p .register in
-    replies-on (get n) (gets ps) w w _ _ (get-reply w whole n (holds .0 .0) (holds .0 .1) ∙ ap (reply 0) (holds .0 .2)) (get-step w whole n (holds .0 .1))
-    (gets-replies ps w whole (holds .1))
+    replies-on (get n) (gets ps) w w _ _ (get-reply w whole idle n (holds .0 .0) (holds .0 .1) ∙ ap (reply 0) (holds .0 .2)) (get-step w whole idle n (holds .0 .1))
+    (gets-replies ps w whole idle (holds .1))

@@ -2,11 +2,12 @@
 -- Assumes nothing.
 use Prim.Native.Nat.{ℕ, _<_}
 use mathlib.Core.Path.{_≡_, refl, sym, ap, subst, _∙_}
-use mathlib.Core.Bool.{false}
+use mathlib.Core.Bool.{true, false}
 use mathlib.Core.List.{List, [], _∷_}
 use mathlib.Core.Logic.{_≢_, inl}
 use native.Mathlib.Omega.{arith}
 use lib.ListN.{length, replicate, length-replicate, length-set}
+use Rattle.basics.specs.Parts.{joined}
 use Rattle.address.specs.Addresses.{addressOf}
 use Rattle.board.specs.Boards.{isBoard, fullBoard, bytesOf}
 use Rattle.board.specs.declared.Part.{Part}
@@ -16,19 +17,20 @@ use Rattle.address.specs.Triples.{onPage, legalY}
 use Rattle.shown.specs.Lengths.{romBytes, fortyBytes, pictureBytes}
 use Rattle.shown.specs.Modes.{isEighty}
 use Rattle.shown.specs.Refusals.{refused7, refused8}
-use Rattle.command.specs.declared.Command.the-variants.{Ind}
+use Rattle.command.specs.declared.Command.the-variants.{Ind, Move}
 use Rattle.command.specs.Commands.{commandOf, commandFor}
+use Rattle.command.specs.Held.{isWriteHeld}
 use Rattle.command.proofs.Listed.{named, lists-ind}
-use Rattle.processor.specs.States.{poweredUp, withRegister, indirectWritten}
-use Rattle.processor.specs.Access.{indirect}
+use Rattle.processor.specs.States.{chip, poweredUp, withRegister, indirectWritten}
+use Rattle.processor.specs.Access.{effect, indirect}
 use Rattle.processor.specs.Pointers.{pointerOf}
 use Rattle.processor.specs.Sizes.{Sized}
-use Rattle.kept.specs.Demands.{Gives, EachNumberReached, put, execute}
+use Rattle.kept.specs.Demands.{Gives, EachNumberReached, put, execute, Idle}
 use Rattle.kept.specs.Premises.{Fair}
 use Rattle.kept.specs.Runs.{own, other, Operation, write, turn, draw, World, first, step, run, done}
 use Rattle.kept.proofs.Boards.{Whole, power-up-whole}
 use Rattle.kept.proofs.Numbers.{number-first}
-use Rattle.kept.proofs.Programs.{written-in, put-step, execute-step}
+use Rattle.kept.proofs.Programs.{written-in, put-step, idle-free, execute-step}
 use Rattle.kept.proofs.Refusals.{worldWith}
 use Rattle.kept.proofs.Sizes.{power-up-sized}
 
@@ -49,6 +51,10 @@ module _ (part : Part) (blocks : ℕ) where
 
   start-whole : Whole start
   start-whole = power-up-whole part blocks (zeros (bytesOf blocks)) (long (bytesOf blocks))
+
+  start-idle : Idle start
+  unfolding poweredUp
+  start-idle = refl
 
 -- of an EF9345 with 16
 abbrev pub memoryBytes : ℕ
@@ -134,7 +140,7 @@ gives-4 =
       last = execute 0x00;
       fair = (tt, (tt, tt));
       happens =
-          subst (λ (w : World). done (execute 0x00) w .number ≡ 4) (sym (put-step at-first (start-whole Ef9345 fullBoard) 7 40 (omega arith)))
+          subst (λ (w : World). done (execute 0x00) w .number ≡ 4) (sym (put-step at-first (start-whole Ef9345 fullBoard) (start-idle Ef9345 fullBoard) 7 40 (omega arith)))
           (number-first (execute 0x00) (written-in at-first 7 40) ∙ rw (long memoryBytes));
     }
 
@@ -163,12 +169,12 @@ abbrev pub set-in : World → ℕ → ℕ → ℕ → World
 set-in w v code r = worldWith w (indirectWritten (withRegister (withRegister (w .processor) 1 v) 0 code) r) (w .memory) (w .picture)
 
 pub setting-in :
-    (w : World) → Whole w → Sized (w .processor) → (v code r : ℕ) → commandOf code ≡ Ind r false →
+    (w : World) → Whole w → Idle w → Sized (w .processor) → (v code r : ℕ) → commandOf code ≡ Ind r false →
     run (setting v code) w ≡ set-in w v code r
 unfolding indirect
-setting-in w whole s v code r is =
-    ap (step (execute code)) (put-step w whole 1 v (omega arith))
-    ∙ execute-step (written-in w 1 v) whole (length-set (w .processor .registers) 1 v ∙ s .0, s .1, s .2) code (Ind r false)
+setting-in w whole idle s v code r is =
+    ap (step (execute code)) (put-step w whole idle 1 v (omega arith))
+    ∙ execute-step (written-in w 1 v) whole (length-set (w .processor .registers) 1 v ∙ s .0, s .1, s .2) code (idle-free (written-in w 1 v) code idle) (Ind r false)
     (named (w .processor .part) code (Ind r false) is (lists-ind (w .processor .part) r false)) refl refl refl refl
 
 -- the same from power-up
@@ -177,7 +183,7 @@ module _ (part : Part) (blocks : ℕ) where
   set-up v code r = set-in (start part blocks) v code r
 
   pub setting-up : (v code r : ℕ) → commandOf code ≡ Ind r false → run (setting v code) (start part blocks) ≡ set-up v code r
-  setting-up = setting-in (start part blocks) (start-whole part blocks) (power-up-sized part blocks)
+  setting-up = setting-in (start part blocks) (start-whole part blocks) (start-idle part blocks) (power-up-sized part blocks)
 
 -- 128 in TGS
 gives-7 : Gives 7
@@ -198,5 +204,27 @@ gives-7 =
           (number-first (draw own own own) (set-up Ef9345 fullBoard 128 0x81 1) ∙ rw (long memoryBytes, long characters));
     }
 
+-- MVB with a stop is started at (0, 0, 0), and then R1 is written
+gives-10 : Gives 10
+unfolding poweredUp commandOf commandFor pointerOf addressOf onPage legalY placeOf joined isWriteHeld
+gives-10 =
+    let k = chip (withRegister (at-first .processor) 0 0xD5) (zeros memoryBytes) in
+    record {
+      part = Ef9345;
+      blocks = fullBoard;
+      board = refl;
+      memory = zeros memoryBytes;
+      rom = zeros characters;
+      picture = picture;
+      before = execute 0xD5 ∷ [];
+      last = put 1 0;
+      fair = (tt, (tt, tt));
+      happens =
+          subst (λ (w : World). done (put 1 0) w .number ≡ 10)
+          (sym (execute-step at-first (start-whole Ef9345 fullBoard) (power-up-sized Ef9345 fullBoard) 0xD5 (idle-free at-first 0xD5 (start-idle Ef9345 fullBoard)) (Move 1 false true) refl refl refl refl refl))
+          (number-first (put 1 0) (worldWith at-first (effect (Move 1 false true) k .processor) (effect (Move 1 false true) k .memory) picture)
+          ∙ rw (long memoryBytes));
+    }
+
 pub each-number-reached : EachNumberReached
-each-number-reached = (gives-0, gives-1, gives-2, gives-3, gives-4, gives-5, gives-6, gives-7, gives-8, gives-9, gives-11)
+each-number-reached = (gives-0, gives-1, gives-2, gives-3, gives-4, gives-5, gives-6, gives-7, gives-8, gives-9, gives-10, gives-11)

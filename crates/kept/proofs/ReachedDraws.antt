@@ -44,7 +44,7 @@ use Rattle.kept.specs.Premises.{EveryRowMarked}
 use Rattle.kept.specs.Runs.{Lent, own, other, Operation, draw, World, step, run, done, pictureLent, Reply, reply, replyTo}
 use Rattle.kept.proofs.Boards.{run-power-up}
 use Rattle.kept.proofs.Numbers.{answered-in-order}
-use Rattle.kept.proofs.Programs.{execute-step}
+use Rattle.kept.proofs.Programs.{idle-free, execute-step}
 use Rattle.kept.proofs.Marks.{store-marks-exact}
 use Rattle.kept.proofs.Reached.{zeros, long, picture, start, memoryBytes, characters, at-first, setting, set-in, setting-in, set-up, setting-up}
 use Rattle.kept.proofs.Refusals.{worldWith}
@@ -167,7 +167,7 @@ after-store =
 storing : step (execute 0x30) after-draw ≡ after-store
 unfolding commandOf commandFor poweredUp indirectWritten pointerOf addressOf onPage legalY placeOf
 storing =
-    execute-step after-draw (long memoryBytes) (refl, refl, length-table (λ r. false) 25) 0x30 (Oct false false false) refl refl refl refl refl
+    execute-step after-draw (long memoryBytes) (refl, refl, length-table (λ r. false) 25) 0x30 (idle-free after-draw 0x30 refl) (Oct false false false) refl refl refl refl refl
 
 -- then row 0 is marked, and row 1 is not
 abbrev marked : ℕ → Bool
@@ -235,7 +235,7 @@ tgs-listed = refl
 
 turning : run (setting 0xC0 0x81) after-draw ≡ turned
 unfolding poweredUp indirectWritten
-turning = setting-in after-draw (long memoryBytes) (refl, refl, length-table (λ r. false) 25) 0xC0 0x81 1 tgs-listed
+turning = setting-in after-draw (long memoryBytes) refl (refl, refl, length-table (λ r. false) 25) 0xC0 0x81 1 tgs-listed
 
 turned-eighty : isEighty (shownOf (turned .processor)) ≡ true
 unfolding poweredUp indirectWritten isEighty

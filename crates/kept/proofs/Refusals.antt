@@ -3,6 +3,7 @@
 -- Assumes nothing.
 use Prim.Native.Nat.{ℕ}
 use mathlib.Core.Path.{_≡_, refl, sym, _∙_}
+use mathlib.Core.Bool.{Bool}
 use mathlib.Core.List.{List}
 use mathlib.Core.Logic.{_≢_}
 use borrow.Author.Tests.{ne-eqb}
@@ -12,31 +13,36 @@ use Rattle.processor.specs.declared.state.Processor.{Processor}
 use Rattle.command.specs.Answers.{numberOf, drawNumberOf}
 use Rattle.processor.specs.States.{Chip}
 use Rattle.processor.specs.Access.{Outcome, turned}
+use Rattle.processor.specs.Moves.{stepped}
 use Rattle.processor.specs.Draws.{DrawOutcome, drawnPage, drawn}
 use Rattle.kept.specs.Demands.{RefusalLeaves}
 use Rattle.kept.specs.Orders.{isLate}
-use Rattle.kept.specs.Runs.{Lent, own, other, Operation, write, read, turn, draw, World, done, lentOf, memoryLent, pictureLent, memoryKept, pictureKept, registered, chipLent, step}
-use Rattle.kept.proofs.Walk.{Ends, write-known, read-known, turn-known, draw-known}
+use Rattle.kept.specs.Runs.{Lent, own, other, Operation, write, read, turn, move, draw, World, done, lentOf, memoryLent, pictureLent, memoryKept, pictureKept, registered, chipLent, step}
+use Rattle.kept.proofs.Walk.{Ends, write-known, read-known, turn-known, step-known, draw-known}
 
 -- k is what there was, and p the state after the register access itself
 abbrev Leaves : Chip → Processor → Outcome → Type 0
 Leaves k p o =
     numberOf (o .answer) ≢ 0 → (o .left .processor ≡ pick (isLate (numberOf (o .answer))) p (k .processor)) × (o .left .memory ≡ k .memory)
 
-access-leaves : (address v : ℕ) (k : Chip) (p : Processor) → Ends address v k p (Leaves k p)
-access-leaves address v k p =
+access-leaves : (address : ℕ) (held : Bool) (v : ℕ) (k : Chip) (p : Processor) → Ends address held v k p (Leaves k p)
+access-leaves address held v k p =
     record {
       wrong-memory = λ m n. (refl, refl);
       wrong-address = λ m a n. (refl, refl);
-      not-executed = λ m a x n. absurd (n refl);
-      not-listed = λ m a x u n. (refl, refl);
-      bad-pointer = λ m a x u s n. (refl, refl);
-      not-fitted = λ m a x u s f n. (refl, refl);
-      accepted = λ m a x u s f n. absurd (n refl);
+      busy = λ m a b n. (refl, refl);
+      not-executed = λ m a b x n. absurd (n refl);
+      not-listed = λ m a b x u n. (refl, refl);
+      bad-pointer = λ m a b x u s n. (refl, refl);
+      not-fitted = λ m a b x u s f n. (refl, refl);
+      accepted = λ m a b x u s f n. absurd (n refl);
     }
 
 turn-leaves : (n : ℕ) (k : Chip) → Leaves k (k .processor) (turned n k)
 turn-leaves n k = turn-known (Leaves k (k .processor)) n k (λ m r. (refl, refl)) (λ m e r. (refl, refl)) (λ m e r. absurd (r refl))
+
+step-leaves : (k : Chip) → Leaves k (k .processor) (stepped k)
+step-leaves k = step-known (Leaves k (k .processor)) k (λ m r. (refl, refl)) (λ m i r. absurd (r refl)) (λ m b r. absurd (r refl))
 
 abbrev DrawLeaves : Processor → List ℕ → DrawOutcome → Type 0
 DrawLeaves p picture o = drawNumberOf (o .answer) ≢ 0 → (o .processor ≡ p) × (o .picture ≡ picture)
@@ -47,12 +53,13 @@ draw-leaves p m rom picture = draw-known (DrawLeaves p picture) p m rom picture 
 
 pub refusal-leaves : RefusalLeaves
 refusal-leaves (write x address v) w n =
-    let l = write-known (Leaves (chipLent x w) (registered (write x address v) w)) address v (chipLent x w) (access-leaves address 0 (chipLent x w) _) n in
+    let l = write-known (Leaves (chipLent x w) (registered (write x address v) w)) address v (chipLent x w) (access-leaves address _ 0 (chipLent x w) _) n in
     (l .0, l .1, refl)
 refusal-leaves (read x address) w n =
-    let l = read-known (Leaves (chipLent x w) (w .processor)) address (chipLent x w) (access-leaves address _ (chipLent x w) (w .processor)) n in
+    let l = read-known (Leaves (chipLent x w) (w .processor)) address (chipLent x w) (access-leaves address _ _ (chipLent x w) (w .processor)) n in
     (l .0, l .1, refl)
 refusal-leaves (turn x phase) w n = let l = turn-leaves phase (chipLent x w) n in (l .0, l .1, refl)
+refusal-leaves (move x) w n = let l = step-leaves (chipLent x w) n in (l .0, l .1, refl)
 refusal-leaves (draw x y z) w n =
     let l = draw-leaves (w .processor) (lentOf x (w .memory)) (lentOf y (w .rom)) (lentOf z (w .picture)) n in
     (l .0 ∙ sym (pick-same (isLate (done (draw x y z) w .number)) (w .processor)), refl, l .1)

@@ -17,7 +17,8 @@ use Rattle.address.proofs.Laws.{legal-page}
 use Rattle.address.specs.declared.triple.Triple.{Triple}
 use Rattle.processor.specs.declared.state.Processor.{Processor}
 use Rattle.processor.specs.States.{chip, registerOf, cleared}
-use Rattle.processor.specs.Pointers.{pointerOf, nextX, incremented, incrementedIf, nextPosition, advanced, advancedIf}
+use Rattle.moves.specs.Onward.{nextX}
+use Rattle.processor.specs.Pointers.{pointerOf, incremented, incrementedIf, nextPosition, advanced, advancedIf}
 use Rattle.address.specs.Narrow.{isOdd, neighbourAt, attributesAt, nibbleFor, bothHalves}
 use Rattle.address.specs.Places.{blockAt, loaded}
 use Rattle.processor.specs.Bytes.{stored, oct, codeRead, codeStored, krf, narrowRead, narrowStored, krl}
@@ -29,7 +30,7 @@ use Rattle.processor.specs.Sizes.{Sized}
 use Rattle.kept.specs.Demands.{CodeKept, ByteKept, NarrowKept, NeighbourKept}
 use Rattle.kept.specs.Quiet.{commandRun, Quiet}
 use Rattle.kept.specs.Runs as runs
-use Rattle.kept.specs.Runs.{Lent, own, Operation, write, read, turn, draw, World, step, run, done, lentOf, memoryLent, memoryKept, registered}
+use Rattle.kept.specs.Runs.{Lent, own, Operation, write, read, turn, move, draw, World, step, run, done, lentOf, memoryLent, memoryKept, registered}
 use Rattle.kept.proofs.Quiet.{quiet-run}
 use Rattle.kept.proofs.Ran.{isNop, command-ran}
 use Rattle.kept.proofs.Sizes.{step-sized, run-sized, power-up-sized}
@@ -168,6 +169,7 @@ registered-eight : (o : Operation) (w : World) → Sized (w .processor) → leng
 registered-eight (write x address v) w s = length-set (w .processor .registers) (bits 0 3 address) v ∙ s .0
 registered-eight (read x address) w s = s .0
 registered-eight (turn x n) w s = s .0
+registered-eight (move x) w s = s .0
 registered-eight (draw x y z) w s = s .0
 
 -- an operation on the kept memory: what its command ran on, and what is kept

@@ -20,7 +20,8 @@ use Rattle.processor.specs.Bytes.{stored}
 use Rattle.processor.specs.Access.{Outcome, written, readOut, phased, turned}
 use Rattle.processor.specs.Draws.{DrawOutcome, drawnPage, drawn}
 use Rattle.processor.specs.Sizes.{Sized}
-use Rattle.kept.specs.Runs.{Operation, write, read, turn, draw, World, lentOf, chipLent, step, run}
+use Rattle.kept.specs.Runs.{Operation, write, read, turn, move, draw, World, lentOf, chipLent, step, run}
+use Rattle.kept.proofs.Walk as walk
 use Rattle.kept.proofs.Walk.{draw-known, KeptBy, write-keeps, read-keeps, turn-keeps, noneBarred, run-known}
 
 abbrev Long : List Bool → Type 0
@@ -54,6 +55,7 @@ sized =
       lx = λ k m a s. s;
       store = λ c b n t g v k s. stored-sized t v k s;
       ind = λ r n k s. indirect-sized r (k .processor) s;
+      busy = λ c t n k b s. s;
     }
 
 -- accesses and the phase change
@@ -82,6 +84,9 @@ pub step-sized : (o : Operation) (w : World) → Sized (w .processor) → Sized 
 step-sized (write x address v) w s = written-sized address v (chipLent x w) s
 step-sized (read x address) w s = read-sized address (chipLent x w) s
 step-sized (turn x n) w s = turned-sized n (chipLent x w) s
+step-sized (move x) w s =
+    walk.step-keeps SizedChip (λ k n v h. (length-set (k .processor .registers) n v ∙ h .0, h .1, h .2)) (λ k b h. h) (λ t l v k h. stored-sized t v k h)
+    (chipLent x w) s
 step-sized (draw x y z) w s = drawn-sized (w .processor) (lentOf x (w .memory)) (lentOf y (w .rom)) (lentOf z (w .picture)) s
 
 pub run-sized : (os : List Operation) (w : World) → Sized (w .processor) → Sized (run os w .processor)

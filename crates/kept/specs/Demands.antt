@@ -1,4 +1,4 @@
--- What is claimed: the three demands as statements, in their order, each followed by what it comes to, Demand1 to Demand3. Nothing is proved
+-- What is claimed: the three demands as statements, in their order, each followed by what it comes to, Demand1 to Demand3, and what is said of moves. Nothing is proved
 -- here: each is the type of a theorem of the same name, in small letters with hyphens, and proofs/Demands has all three together.
 -- Operations, what they are lent, and runs are in Runs; the refusals and their order in Orders; the premises of demand 3 in Premises; what
 -- stores in Quiet; what marks in Rules.
@@ -8,7 +8,7 @@ use mathlib.Core.Path.{_≡_}
 use mathlib.Core.Bool.{Bool, true, false, not, _&&_, _||_}
 use mathlib.Core.List.{List, [], _∷_, _++_}
 use mathlib.Core.Logic.{_≢_}
-use lib.ListN.{length}
+use lib.ListN.{length, replicate}
 use Rattle.basics.specs.Choice.{pick, oneIf}
 use Rattle.address.specs.Addresses.{byteAddresses, codeAddresses, narrowAddresses, allFitted}
 use Rattle.board.specs.Boards.{isPart, partNamed, isBoard, bytesOf}
@@ -25,21 +25,24 @@ use Rattle.page.specs.Marks.{isMarked}
 use Rattle.picture.specs.Redraws.{fresh}
 use Rattle.reading.specs.Lists.{onList}
 use Rattle.command.specs.Answers.{powerNumberOf}
-use Rattle.command.specs.declared.Command.the-variants.{Krf, Oct, Krl}
+use Rattle.command.specs.declared.Command.{Command}
+use Rattle.command.specs.declared.Command.the-variants.{Nop, Ind, Krf, Oct, Krl, Move, NotListed}
+use Rattle.command.specs.Commands.{commandFor}
 use Rattle.processor.specs.declared.draw.Drawn.{Drawn}
 use Rattle.processor.specs.declared.execute.Answered.{Answered}
-use Rattle.processor.specs.Access.{Outcome, outcomeOf}
+use Rattle.processor.specs.Access.{Outcome, outcomeOf, addressesOf, isWhole}
 use Rattle.processor.specs.Draws.{DrawOutcome, drawOutcomeOf}
 use Rattle.processor.specs.Pointers.{pointerOf}
 use Rattle.processor.specs.PowerUps.{poweredUpBoard}
+use Rattle.processor.specs.Sizes.{Sized}
 use Rattle.processor.specs.States.{shownOf, registerOf, poweredUp, powerUp}
 use Rattle.kept.specs.Orders.{order, firstOf, returned, isLate}
 use Rattle.kept.specs.Premises.{Fair, FairRun}
 use Rattle.kept.specs.Quiet.{commandRun, Quiet}
 use Rattle.kept.specs.Rules.{marksRow, clears}
-use Rattle.kept.specs.Runs.{Lent, own, Operation, write, read, draw, World, first, step, run, done, registered, lentOf, memoryLent, pictureLent, Reply, reply, replyTo, replies}
+use Rattle.kept.specs.Runs.{Lent, own, Operation, write, read, move, draw, World, first, step, run, done, registered, lentOf, chipLent, memoryLent, pictureLent, Reply, reply, replyTo, replies}
 
--- 1. Every register access, phase change and draw request gets an answer, for all values and buffer lengths. Bad ones are refused by number
+-- 1. Every register access, step, phase change and draw request gets an answer, for all values and buffer lengths. Bad ones are refused by number
 -- in a fixed order. Apart from a register access that had already taken place, a refusal changes nothing.
 
 -- the answer is the number of the first condition, in the order of the rules, that holds (0 where none does), with what the rules return
@@ -87,7 +90,7 @@ abbrev pub Gives : ℕ → Type 0
 Gives n = Reached (λ o w. done o w .number ≡ n)
 
 abbrev pub EachNumberReached : Type 0
-EachNumberReached = Gives 0 × Gives 1 × Gives 2 × Gives 3 × Gives 4 × Gives 5 × Gives 6 × Gives 7 × Gives 8 × Gives 9 × Gives 11
+EachNumberReached = Gives 0 × Gives 1 × Gives 2 × Gives 3 × Gives 4 × Gives 5 × Gives 6 × Gives 7 × Gives 8 × Gives 9 × Gives 10 × Gives 11
 
 -- a draw is accepted, of all 25 rows, and of some and not all
 abbrev pub Redraws : (ℕ → Type 0) → Type 0
@@ -145,16 +148,22 @@ krlCode reads increments = 0x50 + 8 * oneIf reads + oneIf increments
 abbrev pub codeReplies : ℕ → ℕ → ℕ → List Reply
 codeReplies c b a = reply 0 c ∷ reply 0 b ∷ reply 0 a ∷ []
 
--- after any run on a board of either part and any number of blocks, C, B and A are written to R1, R2 and R3 and stored by KRF at a pointer that is legal with
--- all three blocks fitted; then come operations that store nothing, and
--- the pointer is set back; KRF reads: R1, R2 and R3 are C, B and A
+-- no move runs. (While one does every register write is refused with 10.)
+abbrev pub Idle : World → Type 0
+Idle w = w .processor .busy ≡ false
+
+-- after any run on a board of either part and any number of blocks that leaves no move running, C, B and A are written to R1, R2 and R3 and stored by KRF
+-- at a pointer that is legal with all three blocks fitted; then come operations that store nothing and leave no move running, and the pointer is set back;
+-- KRF reads: R1, R2 and R3 are C, B and A
 abbrev pub CodeRoundTrip : Type 0
 CodeRoundTrip =
     (part : Part) (blocks : ℕ) (m rom picture : List ℕ) (before between : List Operation) (r6 r7 c b a : ℕ) (i j : Bool) →
     length m ≡ bytesOf blocks → allFitted (codeAddresses blocks (mainPointer part r6 r7)) ≡ true →
     let pointer = put 6 r6 ∷ put 7 r7 ∷ [] in
-    let stored = run (pointer ++ put 1 c ∷ put 2 b ∷ put 3 a ∷ execute (krfCode false i) ∷ []) (run before (first part blocks m rom picture)) in
-    Quiet between stored →
+    let ready = run before (first part blocks m rom picture) in
+    let stored = run (pointer ++ put 1 c ∷ put 2 b ∷ put 3 a ∷ execute (krfCode false i) ∷ []) ready in
+    Idle ready →
+    Quiet between stored → Idle (run between stored) →
     replies (pointer ++ execute (krfCode true j) ∷ get 1 ∷ get 2 ∷ get 3 ∷ []) (run between stored)
     ≡ reply 0 0 ∷ reply 0 0 ∷ reply 0 0 ∷ codeReplies c b a
 
@@ -164,8 +173,10 @@ ByteRoundTrip =
     (part : Part) (blocks : ℕ) (m rom picture : List ℕ) (before between : List Operation) (r4 r5 r6 r7 v : ℕ) (auxiliary i j : Bool) →
     length m ≡ bytesOf blocks → allFitted (byteAddresses blocks (pick auxiliary (auxiliaryPointer part r4 r5 r6) (mainPointer part r6 r7))) ≡ true →
     let pointers = put 4 r4 ∷ put 5 r5 ∷ put 6 r6 ∷ put 7 r7 ∷ [] in
-    let stored = run (pointers ++ put 1 v ∷ execute (octCode false auxiliary i) ∷ []) (run before (first part blocks m rom picture)) in
-    Quiet between stored →
+    let ready = run before (first part blocks m rom picture) in
+    let stored = run (pointers ++ put 1 v ∷ execute (octCode false auxiliary i) ∷ []) ready in
+    Idle ready →
+    Quiet between stored → Idle (run between stored) →
     replies (pointers ++ execute (octCode true auxiliary j) ∷ get 1 ∷ []) (run between stored)
     ≡ reply 0 0 ∷ reply 0 0 ∷ reply 0 0 ∷ reply 0 0 ∷ reply 0 0 ∷ reply 0 v ∷ []
 
@@ -179,8 +190,10 @@ NarrowRoundTrip =
     (blocks : ℕ) (m rom picture : List ℕ) (before between : List Operation) (r6 r7 c a : ℕ) (i j : Bool) →
     length m ≡ bytesOf blocks → allFitted (narrowAddresses blocks (mainPointer Ef9345 r6 r7)) ≡ true →
     let pointer = put 6 r6 ∷ put 7 r7 ∷ [] in
-    let stored = run (pointer ++ put 1 c ∷ put 3 a ∷ execute (krlCode false i) ∷ []) (run before (first Ef9345 blocks m rom picture)) in
-    Quiet between stored →
+    let ready = run before (first Ef9345 blocks m rom picture) in
+    let stored = run (pointer ++ put 1 c ∷ put 3 a ∷ execute (krlCode false i) ∷ []) ready in
+    Idle ready →
+    Quiet between stored → Idle (run between stored) →
     replies (pointer ++ execute (krlCode true j) ∷ get 1 ∷ get 3 ∷ []) (run between stored)
     ≡ reply 0 0 ∷ reply 0 0 ∷ reply 0 0 ∷ narrowReplies (mainPointer Ef9345 r6 r7) c a
 
@@ -233,7 +246,50 @@ UnusedStay =
 abbrev pub Demand2 : Type 0
 Demand2 = CodeRoundTrip × ByteRoundTrip × NarrowRoundTrip × CodeKept × ByteKept × NarrowKept × NeighbourKept × UnusedStay
 
--- 3. From power-up, over any sequence of accesses, phase changes and draws, the picture kept by redrawing marked rows equals, after each
+-- Moves. A step while nothing runs answers 0 and changes nothing
+abbrev pub StepIdle : Type 0
+StepIdle = (x : Lent) (w : World) → isWhole (chipLent x w) ≡ true → Idle w → (replyTo (move x) w ≡ reply 0 0) × (step (move x) w ≡ w)
+
+-- a move with a stop ends within 40 steps, from any state in which it began
+abbrev pub MoveEnds : Type 0
+MoveEnds =
+    (o : Operation) (w : World) (bytes : ℕ) (auxiliary : Bool) → Sized (w .processor) → memoryLent o ≡ own →
+    commandRun o w ≡ Move bytes auxiliary true → Idle (run (replicate 40 (move own)) (step o w))
+
+-- one without runs on, however many steps there are
+abbrev pub MoveGoesOn : Type 0
+MoveGoesOn =
+    (o : Operation) (w : World) (bytes : ℕ) (auxiliary : Bool) (n : ℕ) → Sized (w .processor) → memoryLent o ≡ own →
+    commandRun o w ≡ Move bytes auxiliary false → run (replicate n (move own)) (step o w) .processor .busy ≡ true
+
+-- until a NOP, 90 or 91, is executed
+abbrev pub NopEnds : Type 0
+NopEnds =
+    (v : ℕ) (w : World) → 0x90 ≤ v → v ≤ 0x91 → isWhole (chipLent own w) ≡ true → Sized (w .processor) →
+    (replyTo (execute v) w ≡ reply 0 0) × Idle (step (execute v) w)
+
+-- what runs is a move
+abbrev pub isMove : Command → Bool
+isMove Nop = false
+isMove (Ind r reads) = false
+isMove (Krf reads increments) = false
+isMove (Oct reads auxiliary increments) = false
+isMove (Krl reads increments) = false
+isMove (Move bytes auxiliary stops) = true
+isMove NotListed = false
+
+-- and it has legal, fitted pointers, from its start until it ends, over every run from power-up
+abbrev pub MoveFitted : Type 0
+MoveFitted =
+    (part : Part) (blocks : ℕ) (m rom picture : List ℕ) (os : List Operation) →
+    let p = run os (first part blocks m rom picture) .processor in
+    let c = commandFor (p .part) (registerOf p 0) in
+    p .busy ≡ true → (isMove c ≡ true) × (allFitted (addressesOf c p) ≡ true)
+
+abbrev pub Moves : Type 0
+Moves = StepIdle × MoveEnds × MoveGoesOn × NopEnds × MoveFitted
+
+-- 3. From power-up, over any sequence of accesses, steps, phase changes and draws, the picture kept by redrawing marked rows equals, after each
 -- accepted draw, the picture drawn afresh from the present memory, registers, character ROM and phase. A row is marked exactly when the rules
 -- say so, and the reported number of redrawn rows is the number marked.
 

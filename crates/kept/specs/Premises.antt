@@ -12,7 +12,7 @@ use Rattle.shown.specs.Lengths.{romBytes, pictureBytes}
 use Rattle.shown.specs.Modes.{columnBytes}
 use Rattle.page.specs.Marks.{isMarked}
 use Rattle.processor.specs.States.{shownOf}
-use Rattle.kept.specs.Runs.{Lent, own, other, Operation, write, read, turn, draw, World, step}
+use Rattle.kept.specs.Runs.{Lent, own, other, Operation, write, read, turn, move, draw, World, step}
 
 -- the kept buffer, or a list that is not n bytes long
 abbrev pub OwnOrWrong : ℕ → Lent → Type 0
@@ -32,6 +32,7 @@ abbrev pub Fair : Operation → World → Type 0
 Fair (write x address v) w = FairMemory x w
 Fair (read x address) w = FairMemory x w
 Fair (turn x n) w = FairMemory x w
+Fair (move x) w = FairMemory x w
 Fair (draw x y z) w = FairMemory x w × OwnOrWrong (romBytes (w .processor .part)) y × FairPicture z w
 
 -- each operation of a run

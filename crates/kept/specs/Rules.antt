@@ -1,6 +1,6 @@
 -- What marks row r, operation by operation, in the words of the rules.
 -- Assumes nothing.
-use Prim.Native.Nat.{ℕ}
+use Prim.Native.Nat.{ℕ, zero, suc}
 use mathlib.Core.Bool.{Bool, true, false, not, _&&_, _||_}
 use lib.Dec.{eqb, leb}
 use lib.ListN.{getD}
@@ -14,14 +14,16 @@ use Rattle.shown.specs.Modes.{isEighty}
 use Rattle.shown.specs.Refusals.{canDraw}
 use Rattle.reading.specs.Marks.{flashIn}
 use Rattle.command.specs.declared.Command.{Command}
-use Rattle.command.specs.declared.Command.the-variants.{Nop, Ind, Krf, Oct, Krl, NotListed}
+use Rattle.command.specs.declared.Command.the-variants.{Nop, Ind, Krf, Oct, Krl, Move, NotListed}
 use Rattle.processor.specs.declared.state.Processor.{Processor}
 use Rattle.command.specs.Commands.{commandFor}
+use Rattle.command.specs.Held.{isReadHeld, isWriteHeld}
 use Rattle.processor.specs.States.{Chip, chip, registerOf, shownOf, cleared}
 use Rattle.processor.specs.Pointers.{pointerOf}
 use Rattle.processor.specs.Bytes.{stored}
-use Rattle.processor.specs.Access.{isWhole}
-use Rattle.kept.specs.Runs.{Operation, write, read, turn, draw, World, lentOf, chipLent, registered, done}
+use Rattle.processor.specs.Access.{isWhole, addressesOf}
+use Rattle.processor.specs.Moves.{carriedAll}
+use Rattle.kept.specs.Runs.{Operation, write, read, turn, move, draw, World, lentOf, chipLent, registered, done}
 
 -- a draw would get neither 7 nor 8
 abbrev pub isShown : Processor → Bool
@@ -74,17 +76,43 @@ commandRule (Krl true increments) k r = false
 commandRule (Krl false increments) k r =
     allFitted (narrowAddresses (k .processor .blocks) (pointerOf false (k .processor)))
     && narrowRule (pointerOf false (k .processor)) (chip (cleared (k .processor)) (k .memory)) r
+commandRule (Move bytes auxiliary stops) k r = false
 commandRule NotListed k r = false
 
--- an access that is not refused with 1 or 2, and executes; k is what the register access left
-abbrev pub accessRule : ℕ → Chip → ℕ → Bool
-accessRule address k r =
-    isWhole k && (eqb (bits 4 4 address) 2 && (isSet 3 address && commandRule (commandFor (k .processor .part) (registerOf (k .processor) 0)) k r))
+-- an access that is not refused with 1, 2 or 10, and executes; k is what the register access left, held are the accesses that 10 refuses while busy
+abbrev pub accessRule : ℕ → Bool → Chip → ℕ → Bool
+accessRule address held k r =
+    isWhole k
+    && (eqb (bits 4 4 address) 2
+    && (not (k .processor .busy && held)
+    && (isSet 3 address && commandRule (commandFor (k .processor .part) (registerOf (k .processor) 0)) k r)))
+
+-- a step stores its bytes one after another, each as it is read then
+abbrev pub carryRule : ℕ → Triple → Triple → Chip → ℕ → Bool
+carryRule zero from to k r = false
+carryRule (suc n) from to k r =
+    let j = carriedAll n from to k in
+    carryRule n from to k r || storeRule (blockAt to n) (loaded (blockAt from n) (j .memory)) j r
+
+-- by the command that runs: a move, where its pointers are legal and all its bytes are fitted
+abbrev pub moveRule : Command → Chip → ℕ → Bool
+moveRule Nop k r = false
+moveRule (Ind n reads) k r = false
+moveRule (Krf reads increments) k r = false
+moveRule (Oct reads auxiliary increments) k r = false
+moveRule (Krl reads increments) k r = false
+moveRule (Move bytes auxiliary stops) k r =
+    allFitted (addressesOf (Move bytes auxiliary stops) (k .processor))
+    && carryRule bytes (pointerOf auxiliary (k .processor)) (pointerOf (not auxiliary) (k .processor)) k r
+moveRule NotListed k r = false
 
 abbrev pub marksRow : Operation → World → ℕ → Bool
-marksRow (write x address v) w r = accessRule address (chip (registered (write x address v) w) (lentOf x (w .memory))) r
-marksRow (read x address) w r = accessRule address (chipLent x w) r
+marksRow (write x address v) w r = accessRule address (isWriteHeld address v) (chip (registered (write x address v) w) (lentOf x (w .memory))) r
+marksRow (read x address) w r = accessRule address (isReadHeld address) (chipLent x w) r
 marksRow (turn x n) w r = isWhole (chipLent x w) && (leb n 1 && phaseRule n (chipLent x w) r)
+marksRow (move x) w r =
+    let k = chipLent x w in
+    isWhole k && (k .processor .busy && moveRule (commandFor (k .processor .part) (registerOf (k .processor) 0)) k r)
 marksRow (draw x y z) w r = false
 
 -- an accepted draw clears the marks
@@ -92,4 +120,5 @@ abbrev pub clears : Operation → World → Bool
 clears (write x address v) w = false
 clears (read x address) w = false
 clears (turn x n) w = false
+clears (move x) w = false
 clears (draw x y z) w = eqb (done (draw x y z) w .number) 0

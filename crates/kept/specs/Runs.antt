@@ -10,6 +10,7 @@ use Rattle.command.specs.Answers.{numberOf, valueOf, drawNumberOf, rowsOf}
 use Rattle.processor.specs.declared.state.Processor.{Processor}
 use Rattle.processor.specs.States.{Chip, chip, poweredUp, withRegister}
 use Rattle.processor.specs.Access.{Outcome, written, readOut, turned}
+use Rattle.processor.specs.Moves.{stepped}
 use Rattle.processor.specs.Draws.{DrawOutcome, drawn}
 
 -- what is lent where a buffer is asked for: the one that is kept, or another list of bytes
@@ -17,12 +18,13 @@ pub data Lent : Type 0 where
   own : Lent
   other : List ℕ → Lent
 
--- a write of a value at an address, a read at an address, a change to a phase, each with the memory that it is lent; a draw, with the memory,
--- the ROM and the picture
+-- a write of a value at an address, a read at an address, a change to a phase, a step of the move that runs, each with the memory that it is lent; a
+-- draw, with the memory, the ROM and the picture
 pub data Operation : Type 0 where
   write : Lent → ℕ → ℕ → Operation
   read : Lent → ℕ → Operation
   turn : Lent → ℕ → Operation
+  move : Lent → Operation
   draw : Lent → Lent → Lent → Operation
 
 -- what is kept from one operation to the next
@@ -45,13 +47,15 @@ abbrev pub memoryLent : Operation → Lent
 memoryLent (write x address v) = x
 memoryLent (read x address) = x
 memoryLent (turn x n) = x
+memoryLent (move x) = x
 memoryLent (draw x y z) = x
 
--- (an access or a phase change leaves the picture where it is)
+-- (an access, a phase change or a step leaves the picture where it is)
 abbrev pub pictureLent : Operation → Lent
 pictureLent (write x address v) = own
 pictureLent (read x address) = own
 pictureLent (turn x n) = own
+pictureLent (move x) = own
 pictureLent (draw x y z) = z
 
 -- what an operation leaves: the state, the memory and the picture that it was lent; and what it answers: a number, and the value or the rows
@@ -76,6 +80,7 @@ abbrev pub done : Operation → World → Done
 done (write x address v) w = accessDone (written address v (chipLent x w)) w
 done (read x address) w = accessDone (readOut address (chipLent x w)) w
 done (turn x n) w = accessDone (turned n (chipLent x w)) w
+done (move x) w = accessDone (stepped (chipLent x w)) w
 done (draw x y z) w = drawDone (drawn (w .processor) (lentOf x (w .memory)) (lentOf y (w .rom)) (lentOf z (w .picture))) (lentOf x (w .memory))
 
 -- the register access itself, which comes before the command
@@ -83,6 +88,7 @@ abbrev pub registered : Operation → World → Processor
 registered (write x address v) w = withRegister (w .processor) (bits 0 3 address) v
 registered (read x address) w = w .processor
 registered (turn x n) w = w .processor
+registered (move x) w = w .processor
 registered (draw x y z) w = w .processor
 
 -- the kept memory is what was left in it; another list that was lent is not kept

@@ -1,16 +1,16 @@
 -- The blocks in which stores at one X and Y change a byte, and what such stores mark.
 -- Assumes nothing.
-use Prim.Native.Nat.{ℕ, _+_, _*_, _<_}
+use Prim.Native.Nat.{ℕ, _+_, _*_, _<_, _≤_}
 use mathlib.Core.Path.{_≡_, refl, sym, ap, ap₂, _∙_}
 use mathlib.Core.Bool.{Bool, true, false, not, _&&_, _||_, or-false}
 use mathlib.Core.List.{List, [], _∷_}
-use mathlib.Core.Logic.{_⊎_, inl, inr}
+use mathlib.Core.Logic.{_⊎_, inl, inr, ⊎-elim}
 use native.Mathlib.Omega.{arith}
-use lib.Dec.{eqb}
-use lib.ListN.{length, getD}
+use lib.Dec.{eqb, ltb}
+use lib.ListN.{length, getD, take}
 use borrow.Author.Tests.{eq-eqb, ne-eqb}
 use Rattle.basics.specs.Choice.{pick}
-use Rattle.basics.proofs.Choice.{pick-same, or-none, or-neither}
+use Rattle.basics.proofs.Choice.{pick-same, or-none, or-neither, eq-or-ne}
 use Rattle.address.specs.declared.triple.Triple.{Triple}
 use Rattle.address.specs.Triples.{legalIn}
 use Rattle.address.specs.Places.{placeOf, blockOf, byteAt}
@@ -62,6 +62,17 @@ pub changed-at :
 changed-at m x y z v here block changed eh eb e =
     let p : 1024 * z + here ≡ placeOf x y z = omega (arith, place-within x y z) in
     e ∙ ap (λ (k : ℕ). changedBlock m (1024 * k + here) k v) eb ∙ ap (λ (k : ℕ). changedBlock m k z v) p
+
+-- the same of a byte that is asked for or not
+pub changed-if-fits :
+    (board : ℕ) (m : List ℕ) (p z v b : ℕ) (asked : Bool) → (asked ≡ true → z < board) → b ≡ pick asked (changedBlock m p z v) 255 → (b ≡ 255) ⊎ (b < board)
+changed-if-fits board m p z v b true l e = changed-fits board m p z v b (l refl) e
+changed-if-fits board m p z v b false l e = inl e
+
+pub changed-if-at :
+    (m : List ℕ) (x y z v here block changed : ℕ) (asked : Bool) → here ≡ placeOf x y 0 → block ≡ z → changed ≡ pick asked (changedBlock m (1024 * block + here) block v) 255
+    → changed ≡ pick asked (changedBlock m (placeOf x y z) z v) 255
+changed-if-at m x y z v here block changed asked eh eb e = e ∙ ap (λ (n : ℕ). pick asked n 255) (changed-at m x y z v here block _ eh eb refl)
 
 -- a block that changes passes where it does
 changed-passes : (f : ℕ → Bool) (m : List ℕ) (p z v : ℕ) → z < 255 → passes f (changedBlock m p z v) ≡ (not (eqb (byteAt m p) v) && f z)
@@ -140,6 +151,46 @@ module _ (shown : Shown) (m : List ℕ) (marks : List Bool) (long : length marks
         -- one is not at the place of one before it
         off : (i j : ℕ) → i < 4 → j < i → at (blockOf (t .z) i) ≡ at (blockOf (t .z) j) → ⊥
         off i j l h = places-differ (t .x) (t .y) (blockOf (t .z) i) (blockOf (t .z) j) (λ e. omega (arith, blocks-differ (t .z) i j l (omega arith) e))
+
+    -- the first bytes of a code: one, two or three
+    abbrev In : ℕ → ℕ → ℕ → ℕ → Type 0
+    In bytes k v u = u ≡ pick (ltb k bytes) (changed (blockOf (t .z) k) v) 255
+
+    module _ (bytes c b a u v w : ℕ) (s : (k : ℕ) → k < bytes → blockOf (t .z) k < 255) (eu : u ≡ changed (blockOf (t .z) 0) c) (ev : In bytes 1 b v) (ew : In bytes 2 a w) where
+      abbrev Span : ℕ → Type 0
+      Span n = storesMarks shown m (take n (codeStores t c b a)) marks ≡ changeMarks shown m (t .x) (t .y) (u ∷ v ∷ w ∷ []) marks
+
+      one : bytes ≡ 1 → Span bytes
+      unfolding codeStores storesMarks
+      one e =
+          let v0 : v ≡ 255 = rw e at ev in
+          let w0 : w ≡ 255 = rw e at ew in
+          rw (e, v0, w0) (store-changes (t .x) (t .y) (blockOf (t .z) 0) c (s 0 (omega arith)) u eu)
+
+      two : bytes ≡ 2 → Span bytes
+      unfolding codeStores someBlock
+      two e =
+          let v0 : v ≡ changed (blockOf (t .z) 1) b = rw e at ev in
+          let w0 : w ≡ 255 = rw e at ew in
+          rw (e, w0)
+          (stores-change (t .x) (t .y) (take 2 (codeStores t c b a)) (u ∷ v ∷ 255 ∷ [])
+          ((places-differ (t .x) (t .y) (blockOf (t .z) 1) (blockOf (t .z) 0) (λ q. omega (arith, blocks-differ (t .z) 1 0 (omega arith) (omega arith) q)), tt), (tt, tt))
+          (λ r.
+          ap₂ _||_ (passed _ _ (blockOf (t .z) 0) c u (s 0 (omega arith)) eu r)
+          (ap (λ (k : Bool). k || false) (passed _ _ (blockOf (t .z) 1) b v (s 1 (omega arith)) v0 r))))
+
+      three : bytes ≡ 3 → Span bytes
+      unfolding codeStores
+      three e =
+          let v0 : v ≡ changed (blockOf (t .z) 1) b = rw e at ev in
+          let w0 : w ≡ changed (blockOf (t .z) 2) a = rw e at ew in
+          rw e (code-changes c b a u v w (s 0 (omega arith)) (s 1 (omega arith)) (s 2 (omega arith)) eu v0 w0)
+
+      pub span-changes : 1 ≤ bytes → bytes ≤ 3 → Span bytes
+      span-changes l h =
+          ⊎-elim (λ (e : bytes ≡ 1). one e)
+          (λ (n : bytes ≡ 1 → ⊥). ⊎-elim (λ (e : bytes ≡ 2). two e) (λ (k : bytes ≡ 2 → ⊥). let e : bytes ≡ 3 = omega arith in three e) (eq-or-ne bytes 2))
+          (eq-or-ne bytes 1)
 
   -- the ends of the code: no byte changes, the rows are asked, and a draw would be refused
   module _ (x y : ℕ) (blocks : List ℕ) where

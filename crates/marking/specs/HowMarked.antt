@@ -1,6 +1,6 @@
 -- How the code marks: which rows it finds for a byte that changes. Nothing here has to be believed: `asked` and `own-asked` of proofs/Lists.antt show that
--- the rows so asked, in 40 columns and in 80, are those whose lists hold such a byte, and `store-changes`, `code-changes` and `narrow-changes` of
--- proofs/Changes.antt that one store, the three of a code, and the two of a position of 80 columns mark those rows.
+-- the rows so asked, in 40 columns and in 80, are those whose lists hold such a byte, and `store-changes`, `code-changes`, `narrow-changes` and
+-- `span-changes` of proofs/Changes.antt that one store, the three of a code, the two of a position of 80 columns, and those of a move's position mark those rows.
 -- Assumes nothing.
 use Prim.Native.Nat.{ℕ, zero, suc}
 use mathlib.Core.Bool.{Bool, not, _&&_, _||_}

@@ -46,7 +46,14 @@ fn asked_marks(marks: &mut [bool; 25], shown: Shown, memory: &[u8], x: u8, y: u8
 }
 
 // The marks after bytes at X and Y have changed in the blocks, in place: copying them in and out would cost more than most questions.
-fn change_marks(marks: &mut [bool; 25], shown: Shown, memory: &[u8], x: u8, y: u8, blocks: [u8; 3])
+pub fn change_marks(
+    marks: &mut [bool; 25],
+    shown: Shown,
+    memory: &[u8],
+    x: u8,
+    y: u8,
+    blocks: [u8; 3],
+)
     requires { ⌜ (length (now marks) ≡ 25) × (length (now memory) ≡ bytesOf (shown .blocks)) × (onPage x y ≡ true) × AllFitted (shown .blocks) blocks ⌝ }
     ensures { λ _. ⌜ now (marks .exit) ≡ changeMarks shown (now (memory .entry)) x y blocks (now (marks .entry)) ⌝ }
 {
@@ -56,7 +63,7 @@ fn change_marks(marks: &mut [bool; 25], shown: Shown, memory: &[u8], x: u8, y: u
 }
 
 // Block Z where the value changes the byte that it has at this offset, and else 255. The number of the board's blocks is a byte, so that 255 is none of them.
-fn changed_block(memory: &[u8], board: u8, at: usize, z: u8, value: u8) -> u8
+pub fn changed_block(memory: &[u8], board: u8, at: usize, z: u8, value: u8) -> u8
     requires { ⌜ (length (now memory) ≡ bytesOf board) × (at < 1024) × (z < board) ⌝ }
     ensures { λ r. ⌜ (r ≡ changedBlock (now (memory .entry)) (1024 * z + at) z value) × (z < 255) ⌝ }
 {

@@ -1,8 +1,8 @@
--- Laws of the byte that stands for a board.
+-- Laws of the byte that stands for a board and for busy.
 -- Assumes nothing.
 use Prim.Native.Nat.{ℕ, _%_}
 use mathlib.Core.Path.{_≡_, refl, ap, _∙_}
-use mathlib.Core.Bool.{true, _||_}
+use mathlib.Core.Bool.{Bool, true, false, _||_}
 use mathlib.Core.List.{List, [], _∷_}
 use mathlib.Core.Logic.{⊎-elim}
 use native.Mathlib.Omega.{arith}
@@ -15,7 +15,7 @@ use Rattle.basics.proofs.Computed.{agree, agree-test}
 use Rattle.board.specs.Boards.{isBoard, fullBoard}
 use Rattle.board.specs.declared.Part.{Part}
 use Rattle.board.specs.declared.Part.the-variants.{Ef9345, Ts9347}
-use Rattle.packing.specs.Layouts.{boardByte, partOfByte, blocksOfByte}
+use Rattle.packing.specs.Layouts.{boardByte, partOfByte, blocksOfByte, isBusyByte}
 
 -- one of three numbers
 one-of-three : (P : ℕ → Type 0) (x y z n : ℕ) → P x → P y → P z → (eqb n x || (eqb n y || eqb n z)) ≡ true → P n
@@ -24,14 +24,24 @@ one-of-three P x y z n px py pz t =
     (λ u. ⊎-elim (λ e. rw (eqb-true n y e) py) (λ e. rw (eqb-true n z e) pz) (or-cases (eqb n y) (eqb n z) u))
     (or-cases (eqb n x) _ t)
 
--- a board's byte stands for its part and for its blocks
-pub part-back : (part : Part) (blocks : ℕ) → isBoard part blocks ≡ true → partOfByte (boardByte blocks) ≡ part
-part-back Ef9345 blocks b = one-of-three (λ n. partOfByte (boardByte n) ≡ Ef9345) 2 8 16 blocks refl refl refl b
-part-back Ts9347 blocks b = rw (eqb-true blocks 32 b)
+-- a board's byte stands for its part, for its blocks and for busy
+pub part-back : (part : Part) (blocks : ℕ) (busy : Bool) → isBoard part blocks ≡ true → partOfByte (boardByte blocks busy) ≡ part
+part-back Ef9345 blocks true b = one-of-three (λ n. partOfByte (boardByte n true) ≡ Ef9345) 2 8 16 blocks refl refl refl b
+part-back Ef9345 blocks false b = one-of-three (λ n. partOfByte (boardByte n false) ≡ Ef9345) 2 8 16 blocks refl refl refl b
+part-back Ts9347 blocks true b = rw (eqb-true blocks 32 b)
+part-back Ts9347 blocks false b = rw (eqb-true blocks 32 b)
 
-pub blocks-back : (part : Part) (blocks : ℕ) → isBoard part blocks ≡ true → blocksOfByte (boardByte blocks) ≡ blocks
-blocks-back Ef9345 blocks b = one-of-three (λ n. blocksOfByte (boardByte n) ≡ n) 2 8 16 blocks refl refl refl b
-blocks-back Ts9347 blocks b = rw (eqb-true blocks 32 b)
+pub blocks-back : (part : Part) (blocks : ℕ) (busy : Bool) → isBoard part blocks ≡ true → blocksOfByte (boardByte blocks busy) ≡ blocks
+blocks-back Ef9345 blocks true b = one-of-three (λ n. blocksOfByte (boardByte n true) ≡ n) 2 8 16 blocks refl refl refl b
+blocks-back Ef9345 blocks false b = one-of-three (λ n. blocksOfByte (boardByte n false) ≡ n) 2 8 16 blocks refl refl refl b
+blocks-back Ts9347 blocks true b = rw (eqb-true blocks 32 b)
+blocks-back Ts9347 blocks false b = rw (eqb-true blocks 32 b)
+
+pub busy-back : (part : Part) (blocks : ℕ) (busy : Bool) → isBoard part blocks ≡ true → isBusyByte (boardByte blocks busy) ≡ busy
+busy-back Ef9345 blocks true b = one-of-three (λ n. isBusyByte (boardByte n true) ≡ true) 2 8 16 blocks refl refl refl b
+busy-back Ef9345 blocks false b = one-of-three (λ n. isBusyByte (boardByte n false) ≡ false) 2 8 16 blocks refl refl refl b
+busy-back Ts9347 blocks true b = rw (eqb-true blocks 32 b)
+busy-back Ts9347 blocks false b = rw (eqb-true blocks 32 b)
 
 -- by the four bits
 abbrev partAt : ℕ → Part

@@ -12,7 +12,7 @@ use Rattle.board.specs.Boards.{partNumber}
 use Rattle.board.specs.declared.Part.{Part}
 use Rattle.processor.specs.declared.state.Processor.{Processor}
 use Rattle.processor.specs.States.{registerOf, statusOf, shownOf}
-use Rattle.packing.specs.Layouts.{unpacked, isOn, partOfByte, blocksOfByte}
+use Rattle.packing.specs.Layouts.{unpacked, isOn, partOfByte, blocksOfByte, isBusyByte}
 use Rattle.packing.specs.Reports.{reported, registersShown, drawnBy}
 use Rattle.packing.proofs.Parts.{put-middle}
 
@@ -45,12 +45,12 @@ packed-parts p m a n x y z b1 b2 b3 lr li lm em ea en e1 e2 e3 =
 
 -- the parts that are taken out, with the three bytes between them and the board's
 pub unpacked-parts :
-    (bytes r i : List ℕ) (marks : List Bool) (blocks : ℕ) (part : Part) → r ≡ take 8 bytes → i ≡ take 8 (drop 8 bytes) → marks ≡ map isOn (take 25 (drop 19 bytes)) → blocks ≡ blocksOfByte (getD bytes 44 0)
-    → part ≡ partOfByte (getD bytes 44 0)
-    → record { registers = r; indirect = i; lxm = isOn (getD bytes 16 0); lxa = isOn (getD bytes 17 0); phase = getD bytes 18 0; marks = marks; blocks = blocks; part = part }
+    (bytes r i : List ℕ) (marks : List Bool) (blocks : ℕ) (busy : Bool) (part : Part) → r ≡ take 8 bytes → i ≡ take 8 (drop 8 bytes) → marks ≡ map isOn (take 25 (drop 19 bytes)) → blocks ≡ blocksOfByte (getD bytes 44 0)
+    → busy ≡ isBusyByte (getD bytes 44 0) → part ≡ partOfByte (getD bytes 44 0)
+    → record { registers = r; indirect = i; lxm = isOn (getD bytes 16 0); lxa = isOn (getD bytes 17 0); phase = getD bytes 18 0; marks = marks; blocks = blocks; busy = busy; part = part }
     ≡ unpacked bytes
 unfolding unpacked
-unpacked-parts bytes r i marks blocks part er ei em eb ep = rw (er, ei, em, eb, ep)
+unpacked-parts bytes r i marks blocks busy part er ei em eb eu ep = rw (er, ei, em, eb, eu, ep)
 
 -- what is shown before the marks, then the marks
 pub reported-parts :

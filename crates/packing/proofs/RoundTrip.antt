@@ -11,8 +11,8 @@ use Rattle.basics.specs.Choice.{oneIf}
 use Rattle.board.specs.Boards.{isBoard}
 use Rattle.processor.specs.declared.state.Processor.{Processor}
 use Rattle.processor.specs.Sizes.{Sized}
-use Rattle.packing.specs.Layouts.{packed, unpacked, isOn, partOfByte, blocksOfByte}
-use Rattle.packing.proofs.Boards.{part-back, blocks-back, board-named}
+use Rattle.packing.specs.Layouts.{packed, unpacked, isOn, partOfByte, blocksOfByte, isBusyByte}
+use Rattle.packing.proofs.Boards.{part-back, blocks-back, busy-back, board-named}
 use Rattle.packing.proofs.Parts.{length-part, length-marks}
 
 -- marks as bytes and back
@@ -61,7 +61,7 @@ module _ (r i : List ℕ) (x y z : ℕ) (marks : List ℕ) (n : ℕ) (rest : Lis
   -- unpacked
   made :
       unpacked whole
-      ≡ record { registers = r; indirect = i; lxm = isOn x; lxa = isOn y; phase = z; marks = map isOn marks; blocks = blocksOfByte n; part = partOfByte n }
+      ≡ record { registers = r; indirect = i; lxm = isOn x; lxa = isOn y; phase = z; marks = map isOn marks; blocks = blocksOfByte n; busy = isBusyByte n; part = partOfByte n }
   unfolding unpacked
   made = rw (first-part, second-part, at-place 0, at-place 1, at-place 2, last-part, board-place)
 
@@ -69,7 +69,7 @@ module _ (r i : List ℕ) (x y z : ℕ) (marks : List ℕ) (n : ℕ) (rest : Lis
 pub unpacked-packed : (p : Processor) → Sized p → isBoard (p .part) (p .blocks) ≡ true → unpacked (packed p) ≡ p
 unfolding packed
 unpacked-packed p s b =
-    rw (made _ _ _ _ _ _ _ _ (s .0) (s .1) (length-map (p .marks) oneIf ∙ s .2), blocks-back (p .part) (p .blocks) b, part-back (p .part) (p .blocks) b) (simp (on-flag, on-one))
+    rw (made _ _ _ _ _ _ _ _ (s .0) (s .1) (length-map (p .marks) oneIf ∙ s .2), blocks-back (p .part) (p .blocks) (p .busy) b, busy-back (p .part) (p .blocks) (p .busy) b, part-back (p .part) (p .blocks) (p .busy) b) (simp (on-flag, on-one))
 
 -- any 64 bytes are a processor's
 pub unpacked-sized : (bytes : List ℕ) → length bytes ≡ 64 → Sized (unpacked bytes)

@@ -4,7 +4,7 @@ ghost use mathlib.Core.Bool.{true};
 ghost use Prim.Native.Nat.{_%_};
 ghost use lib.ListN.{getD};
 ghost use Rattle.board.specs.Boards.{isBoard};
-ghost use Rattle.packing.specs.Layouts.{boardByte, partOfByte, blocksOfByte, packed, unpacked};
+ghost use Rattle.packing.specs.Layouts.{boardByte, partOfByte, blocksOfByte, isBusyByte, packed, unpacked};
 use crate::part::eight_from;
 use crate::part::flag;
 use crate::part::marks_from;
@@ -17,10 +17,14 @@ use processor::state::Processor;
 // byte with each makes `unpacked` too long to be compiled into its callers, and each of them fifty instructions dearer.)
 const BOARDS: [u8; 16] = [16, 16, 2, 16, 32, 16, 16, 16, 8, 16, 16, 16, 16, 16, 16, 16];
 
-fn board_byte(blocks: u8) -> u8
-    ensures { λ r. ⌜ r ≡ boardByte blocks ⌝ }
+fn board_byte(blocks: u8, busy: bool) -> u8
+    ensures { λ r. ⌜ r ≡ boardByte blocks busy ⌝ }
 {
-    blocks % 16 + blocks / 32 * 4
+    let idle = blocks % 16 + blocks / 32 * 4;
+    if busy {
+        return idle + 16;
+    }
+    idle
 }
 
 fn index(byte: u8) -> usize
@@ -44,9 +48,9 @@ fn part_of(byte: u8) -> Part
     Part::Ef9345
 }
 
-// The processor of bytes whose board is known.
-pub fn unpacked_as(bytes: [u8; 64], blocks: u8, part: Part) -> Processor
-    requires { ⌜ (blocks ≡ blocksOfByte (getD bytes 44 0)) × (part ≡ partOfByte (getD bytes 44 0)) ⌝ }
+// The processor of bytes of which the board and busy are known.
+pub fn unpacked_as(bytes: [u8; 64], blocks: u8, busy: bool, part: Part) -> Processor
+    requires { ⌜ (blocks ≡ blocksOfByte (getD bytes 44 0)) × (busy ≡ isBusyByte (getD bytes 44 0)) × (part ≡ partOfByte (getD bytes 44 0)) ⌝ }
     ensures { λ r. ⌜ r ≡ unpacked bytes ⌝ }
 {
     let registers = eight_from(bytes, 0);
@@ -60,6 +64,7 @@ pub fn unpacked_as(bytes: [u8; 64], blocks: u8, part: Part) -> Processor
         phase: bytes[18],
         marks,
         blocks,
+        busy,
         part,
     }
 }
@@ -68,7 +73,7 @@ pub fn unpacked(bytes: [u8; 64]) -> Processor
     ensures { λ r. ⌜ r ≡ unpacked bytes ⌝ }
 {
     let byte = bytes[44];
-    unpacked_as(bytes, blocks_of(byte), part_of(byte))
+    unpacked_as(bytes, blocks_of(byte), 16 <= byte, part_of(byte))
 }
 
 // Whatever the processor of a board, its bytes unpack to it.
@@ -79,7 +84,7 @@ pub fn packed(p: Processor) -> [u8; 64]
     bytes[16] = flag(p.lxm);
     bytes[17] = flag(p.lxa);
     bytes[18] = p.phase;
-    bytes[44] = board_byte(p.blocks);
+    bytes[44] = board_byte(p.blocks, p.busy);
     let registers = p.registers;
     let indirect = p.indirect;
     let marks = p.marks;

@@ -13,9 +13,12 @@ use Rattle.board.specs.declared.Part.{Part}
 use Rattle.board.specs.declared.Part.the-variants.{Ef9345, Ts9347}
 use Rattle.address.specs.Pointers.{mainPointer, auxiliaryPointer}
 use Rattle.address.specs.declared.triple.Triple.{Triple}
+use Rattle.moves.specs.Onward.{nextX}
+use Rattle.moves.proofs.Going.{next-last, next-more}
+use Rattle.moves.proofs.Pointers.{main-at, auxiliary-at}
 use Rattle.processor.specs.declared.state.Processor.{Processor}
 use Rattle.processor.specs.States.{Chip, chip, registerOf, withRegister, withLx, cleared}
-use Rattle.processor.specs.Pointers.{pointerOf, nextX, incremented, nextPosition, advanced}
+use Rattle.processor.specs.Pointers.{pointerOf, incremented, nextPosition, advanced}
 use Rattle.processor.specs.Bytes.{stored, codeRead, codeStored}
 
 -- registers 1 to 3 and the LX bits and marks are no part of a pointer
@@ -47,30 +50,12 @@ pub pointer-code-stored : (auxiliary : Bool) (t : Triple) (k : Chip) → pointer
 unfolding codeStored
 pointer-code-stored auxiliary t k = pointer-stored auxiliary _ _ _ ∙ pointer-stored auxiliary _ _ _ ∙ pointer-stored auxiliary _ _ k
 
--- the next X, as the code works it out
-pub next-last : (v : ℕ) → v % 64 ≡ 39 → v - 39 ≡ nextX v
-unfolding nextX
-next-last v e = let b : bits 0 6 v ≡ 39 = omega arith in rw (eq-eqb _ _ b)
-
-pub next-more : (v : ℕ) → (v % 64 ≡ 39 → ⊥) → v + 1 ≡ nextX v
-unfolding nextX
-next-more v e = let b : bits 0 6 v ≡ 39 → ⊥ = λ q. e (omega arith) in rw (ne-eqb _ _ b)
-
--- the X of either pointer, which is where it is for either part
-main-column : (part : Part) (r6 r7 : ℕ) → mainPointer part r6 r7 .x ≡ bits 0 6 r7
-main-column Ef9345 r6 r7 = refl
-main-column Ts9347 r6 r7 = refl
-
-auxiliary-column : (part : Part) (r4 r5 r6 : ℕ) → auxiliaryPointer part r4 r5 r6 .x ≡ bits 0 6 r5
-auxiliary-column Ef9345 r4 r5 r6 = refl
-auxiliary-column Ts9347 r4 r5 r6 = refl
-
 -- the four ways of an increment; v is the byte that the code took out of the register
 module _ (auxiliary : Bool) (p : Processor) (v : ℕ) where
   module _ (a : auxiliary ≡ true) (e : v ≡ registerOf p 5) where
     pub auxiliary-x : pointerOf auxiliary p .x < 40 → v % 64 < 40
     unfolding pointerOf
-    auxiliary-x h = let x : bits 0 6 (registerOf p 5) < 40 = rw (a, auxiliary-column (p .part) (registerOf p 4) (registerOf p 5) (registerOf p 6)) at h in omega arith
+    auxiliary-x h = let x : bits 0 6 (registerOf p 5) < 40 = rw (a, auxiliary-at (p .part) (registerOf p 4) (registerOf p 5) (registerOf p 6) .0) at h in omega arith
 
     pub auxiliary-last : v % 64 ≡ 39 → withLx (withRegister p 5 (v - 39)) (p .lxm) true ≡ incremented auxiliary p
     unfolding incremented
@@ -89,7 +74,7 @@ module _ (auxiliary : Bool) (p : Processor) (v : ℕ) where
   module _ (a : auxiliary ≡ false) (e : v ≡ registerOf p 7) where
     pub main-x : pointerOf auxiliary p .x < 40 → v % 64 < 40
     unfolding pointerOf
-    main-x h = let x : bits 0 6 (registerOf p 7) < 40 = rw (a, main-column (p .part) (registerOf p 6) (registerOf p 7)) at h in omega arith
+    main-x h = let x : bits 0 6 (registerOf p 7) < 40 = rw (a, main-at (p .part) (registerOf p 6) (registerOf p 7) .0) at h in omega arith
 
     pub main-last : v % 64 ≡ 39 → withLx (withRegister p 7 (v - 39)) true (p .lxa) ≡ incremented auxiliary p
     unfolding incremented

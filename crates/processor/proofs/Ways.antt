@@ -2,7 +2,7 @@
 -- Assumes nothing.
 use Prim.Native.Nat.{ℕ, _+_, _*_, _/_, _<_, _≤_}
 use mathlib.Core.Path.{_≡_, refl, sym, ap, _∙_}
-use mathlib.Core.Bool.{Bool, true, false, not, _||_, false≢true}
+use mathlib.Core.Bool.{Bool, true, false, not, _&&_, _||_, false≢true}
 use mathlib.Core.List.{List}
 use mathlib.Core.Logic.{⊎-elim}
 use native.Mathlib.Omega.{arith}
@@ -28,7 +28,7 @@ use Rattle.page.specs.Marks.{allMarked, noneMarked, markedRows}
 use Rattle.picture.specs.Redraws.{redrawn}
 use Rattle.reading.specs.Marks.{storesMarks, codeStores, narrowStores, phaseMarks}
 use Rattle.command.specs.declared.answer.Answer.{Answer}
-use Rattle.command.specs.declared.answer.Answer.the-variants.{Accepted, WrongMemory, WrongAddress, WrongPhase}
+use Rattle.command.specs.declared.answer.Answer.the-variants.{Accepted, WrongMemory, WrongAddress, WrongPhase, Busy}
 use Rattle.command.specs.declared.answer.Drawing.the-variants as drawing
 use Rattle.processor.specs.declared.state.Processor.{Processor}
 use Rattle.processor.specs.States.{Chip, chip, registerOf, shownOf, withRegister, withIndirect, withMarks, withPhase, cleared, indirectWritten}
@@ -37,9 +37,6 @@ use Rattle.processor.specs.Bytes.{stored, oct, codeStored, narrowStored}
 use Rattle.processor.specs.Access.{Outcome, outcome, checked, phased, turned}
 use Rattle.processor.specs.Draws.{drawOutcome, drawn, drawnPage}
 use Rattle.processor.proofs.Laws.{high-bits}
-
-pub le-not-lt : (a b : ℕ) → leb b a ≡ not (ltb a b)
-le-not-lt a b = ⊎-elim (λ l. rw (lt-leb b a l, lt-ltb a b l)) (λ l. rw (le-leb b a l, le-ltb a b l)) (lt-or-le a b)
 
 -- the head of an access: the memory's length, and the address's high bits
 module _ (memory blocks address : ℕ) where
@@ -55,31 +52,41 @@ module _ (memory blocks address : ℕ) where
   pub memory-whole : (b : Bool) → b ≡ Refused → b ≡ false → memory ≡ bytesOf blocks
   memory-whole b e f = eqb-true memory (bytesOf blocks) (not-false _ (or-neither _ _ (sym e ∙ f)))
 
--- an access: refused, and done
-module _ (address : ℕ) (k : Chip) (done : Outcome) (b : Bool) (learnt : b ≡ Refused (length (k .memory)) (k .processor .blocks) address) where
+-- an access: refused with 1 or 2, refused with 10, and done
+module _ (address : ℕ) (held : Bool) (k : Chip) (done : Outcome) (b : Bool) (learnt : b ≡ Refused (length (k .memory)) (k .processor .blocks) address) where
   pub access-refused :
       b ≡ true → (answer : Answer) → answer ≡ pick (eqb (length (k .memory)) (bytesOf (k .processor .blocks))) WrongAddress WrongMemory →
-      outcome k answer ≡ checked address k done
+      outcome k answer ≡ checked address held k done
   unfolding checked
   access-refused t answer e = ap (outcome k) e ∙ go (eqb (length (k .memory)) (bytesOf (k .processor .blocks))) (eqb (bits 4 4 address) 2) (sym learnt ∙ t)
     where
       go :
           (whole chosen : Bool) → (not whole || not chosen) ≡ true →
-          outcome k (pick whole WrongAddress WrongMemory) ≡ pick whole (pick chosen done (outcome k WrongAddress)) (outcome k WrongMemory)
+          outcome k (pick whole WrongAddress WrongMemory)
+          ≡ pick whole (pick chosen (pick (k .processor .busy && held) (outcome k Busy) done) (outcome k WrongAddress)) (outcome k WrongMemory)
       go true true r = absurd (false≢true r)
       go true false r = refl
       go false chosen r = refl
 
-  pub access-done : b ≡ false → done ≡ checked address k done
-  unfolding checked
-  access-done f = go (eqb (length (k .memory)) (bytesOf (k .processor .blocks))) (eqb (bits 4 4 address) 2) (sym learnt ∙ f)
-    where
-      go :
-          (whole chosen : Bool) → (not whole || not chosen) ≡ false →
-          done ≡ pick whole (pick chosen done (outcome k WrongAddress)) (outcome k WrongMemory)
-      go true true r = refl
-      go true false r = absurd (false≢true (sym r))
-      go false chosen r = absurd (false≢true (sym r))
+  -- where it is neither
+  module _ (f : b ≡ false) where
+    passed : pick (k .processor .busy && held) (outcome k Busy) done ≡ checked address held k done
+    unfolding checked
+    passed = go (eqb (length (k .memory)) (bytesOf (k .processor .blocks))) (eqb (bits 4 4 address) 2) (sym learnt ∙ f)
+      where
+        go :
+            (whole chosen : Bool) → (not whole || not chosen) ≡ false →
+            pick (k .processor .busy && held) (outcome k Busy) done
+            ≡ pick whole (pick chosen (pick (k .processor .busy && held) (outcome k Busy) done) (outcome k WrongAddress)) (outcome k WrongMemory)
+        go true true r = refl
+        go true false r = absurd (false≢true (sym r))
+        go false chosen r = absurd (false≢true (sym r))
+
+    pub access-held : (h : Bool) → h ≡ (k .processor .busy && held) → h ≡ true → outcome k Busy ≡ checked address held k done
+    access-held h e t = rw (sym e ∙ t) at passed
+
+    pub access-done : (h : Bool) → h ≡ (k .processor .busy && held) → h ≡ false → done ≡ checked address held k done
+    access-done h e t = rw (sym e ∙ t) at passed
 
 -- OCT, read and stored; r is what the increment leaves
 module _ (reads auxiliary increments : Bool) (k : Chip) (at : Triple) (free r : Processor) where

@@ -1,8 +1,8 @@
 -- Register accesses and the phase change: for each what it leaves and what it answers.
 -- Assumes nothing.
 use Prim.Native.Nat.{ℕ}
-use mathlib.Core.Bool.{Bool, true, false}
-use mathlib.Core.List.{List, []}
+use mathlib.Core.Bool.{Bool, true, false, _&&_}
+use mathlib.Core.List.{List, [], _++_}
 use lib.Dec.{leb, eqb}
 use lib.ListN.{length}
 use Rattle.basics.specs.Choice.{pick}
@@ -12,12 +12,14 @@ use Rattle.board.specs.Boards.{bytesOf}
 use Rattle.address.specs.declared.answer.Address.{Address}
 use Rattle.command.specs.declared.Command as command
 use Rattle.command.specs.declared.answer.Answer.{Answer}
-use Rattle.command.specs.declared.answer.Answer.the-variants.{Accepted, WrongMemory, WrongAddress, NotListed, BadPointer, WrongPhase, NotFitted}
+use Rattle.command.specs.declared.answer.Answer.the-variants.{Accepted, WrongMemory, WrongAddress, NotListed, BadPointer, WrongPhase, Busy, NotFitted}
 use Rattle.command.specs.Commands.{commandFor}
+use Rattle.command.specs.Held.{isReadHeld, isWriteHeld}
+use Rattle.moves.specs.Spans.{spanAddresses}
 use Rattle.reading.specs.Marks.{phaseMarks}
 use Rattle.processor.specs.declared.state.Processor.{Processor}
 use Rattle.processor.specs.declared.execute.Answered.{Answered}
-use Rattle.processor.specs.States.{Chip, chip, registerOf, registerRead, shownOf, withRegister, withPhase, indirectRead, indirectWritten}
+use Rattle.processor.specs.States.{Chip, chip, registerOf, registerRead, shownOf, withRegister, withPhase, withBusy, cleared, indirectRead, indirectWritten}
 use Rattle.processor.specs.Pointers.{pointerOf}
 use Rattle.processor.specs.Bytes.{oct, krf, krl}
 
@@ -39,18 +41,20 @@ isUnlisted (command.the-variants.Ind r reads) = false
 isUnlisted (command.the-variants.Krf reads increments) = false
 isUnlisted (command.the-variants.Oct reads auxiliary increments) = false
 isUnlisted (command.the-variants.Krl reads increments) = false
+isUnlisted (command.the-variants.Move bytes auxiliary stops) = false
 isUnlisted command.the-variants.NotListed = true
 
--- the addresses of its bytes, read forms too. (IND and NOP have none.)
+-- the addresses of its bytes, read forms too; those of a move at either pointer. (IND and NOP have none.)
 abbrev pub addressesOf : command.Command → Processor → List Address
 addressesOf command.the-variants.Nop p = []
 addressesOf (command.the-variants.Ind r reads) p = []
 addressesOf (command.the-variants.Krf reads increments) p = codeAddresses (p .blocks) (pointerOf false p)
 addressesOf (command.the-variants.Oct reads auxiliary increments) p = byteAddresses (p .blocks) (pointerOf auxiliary p)
 addressesOf (command.the-variants.Krl reads increments) p = narrowAddresses (p .blocks) (pointerOf false p)
+addressesOf (command.the-variants.Move bytes auxiliary stops) p = spanAddresses bytes (p .blocks) (pointerOf false p) ++ spanAddresses bytes (p .blocks) (pointerOf true p)
 addressesOf command.the-variants.NotListed p = []
 
--- 4: its pointer has X above 39 or Y from 1 to 7
+-- 4: its pointer, either pointer of a move, has X above 39 or Y from 1 to 7
 abbrev pub isAstray : command.Command → Processor → Bool
 isAstray c p = someAddress isIllegal (addressesOf c p)
 
@@ -63,13 +67,18 @@ unfoldable pub indirect : ℕ → Bool → Processor → Processor
 indirect r true p = indirectRead p r
 indirect r false p = indirectWritten p r
 
--- what a command does where nothing refuses it
+-- nothing runs any more
+abbrev pub idle : Chip → Chip
+idle k = chip (withBusy (k .processor) false) (k .memory)
+
+-- what a command does where nothing refuses it. A NOP ends a move; a move sets busy, and nothing has moved yet
 abbrev pub effect : command.Command → Chip → Chip
-effect command.the-variants.Nop k = k
+effect command.the-variants.Nop k = idle k
 effect (command.the-variants.Ind r reads) k = chip (indirect r reads (k .processor)) (k .memory)
 effect (command.the-variants.Krf reads increments) k = krf reads increments k
 effect (command.the-variants.Oct reads auxiliary increments) k = oct reads auxiliary increments k
 effect (command.the-variants.Krl reads increments) k = krl reads increments k
+effect (command.the-variants.Move bytes auxiliary stops) k = chip (withBusy (cleared (k .processor)) true) (k .memory)
 effect command.the-variants.NotListed k = k
 
 -- a command runs, after the access that gave the value v. Access is checked .. 3, 4, 11; 11 leaves what 4 leaves
@@ -88,19 +97,21 @@ executed address v k = pick (isSet 3 address) (ran (commandFor (k .processor .pa
 abbrev pub isWhole : Chip → Bool
 isWhole k = eqb (length (k .memory)) (bytesOf (k .processor .blocks))
 
--- Access is checked 1, 2 before it takes place
-unfoldable pub checked : ℕ → Chip → Outcome → Outcome
-checked address k done =
-    pick (isWhole k) (pick (eqb (bits 4 4 address) 2) done (outcome k WrongAddress)) (outcome k WrongMemory)
+-- Access is checked 1, 2, 10 before it takes place; held are the accesses that 10 refuses while busy
+unfoldable pub checked : ℕ → Bool → Chip → Outcome → Outcome
+checked address held k done =
+    pick (isWhole k)
+    (pick (eqb (bits 4 4 address) 2) (pick (k .processor .busy && held) (outcome k Busy) done) (outcome k WrongAddress))
+    (outcome k WrongMemory)
 
 -- The access comes first, then the command runs. The address's low three bits name R0 to R7
 unfoldable pub written : ℕ → ℕ → Chip → Outcome
 written address v k =
-    checked address k (executed address 0 (chip (withRegister (k .processor) (bits 0 3 address) v) (k .memory)))
+    checked address (isWriteHeld address v) k (executed address 0 (chip (withRegister (k .processor) (bits 0 3 address) v) (k .memory)))
 
 -- a read executes too, and returns the value from before
 unfoldable pub readOut : ℕ → Chip → Outcome
-readOut address k = checked address k (executed address (registerRead (k .processor) (bits 0 3 address)) k)
+readOut address k = checked address (isReadHeld address) k (executed address (registerRead (k .processor) (bits 0 3 address)) k)
 
 -- a changed phase marks
 unfoldable pub phased : ℕ → Chip → Chip

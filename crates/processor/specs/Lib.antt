@@ -3,5 +3,7 @@ pub mod PowerUps
 pub mod Pointers
 pub mod Bytes
 pub mod Access
+pub mod Moves
+pub mod HowCarried
 pub mod Draws
 pub mod Sizes

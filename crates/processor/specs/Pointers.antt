@@ -2,9 +2,9 @@
 -- Assumes nothing.
 use Prim.Native.Nat.{ℕ, _+_, _-_}
 use mathlib.Core.Bool.{Bool, true, _&&_}
-use lib.Dec.{eqb}
 use Rattle.basics.specs.Choice.{pick}
-use Rattle.basics.specs.Bits.{bits, isSet}
+use Rattle.basics.specs.Bits.{isSet}
+use Rattle.moves.specs.Onward.{isLast, nextX}
 use Rattle.address.specs.Pointers.{mainPointer, auxiliaryPointer}
 use Rattle.address.specs.declared.triple.Triple.{Triple}
 use Rattle.processor.specs.declared.state.Processor.{Processor}
@@ -17,17 +17,13 @@ pointerOf auxiliary p =
     (auxiliaryPointer (p .part) (registerOf p 4) (registerOf p 5) (registerOf p 6))
     (mainPointer (p .part) (registerOf p 6) (registerOf p 7))
 
--- X, bits 5..0 of a register: one more; from 39 X goes to 0. Y and the block stay
-unfoldable pub nextX : ℕ → ℕ
-nextX register = pick (eqb (bits 0 6 register) 39) (register - 39) (register + 1)
-
 -- Increment adds 1 to X of the pointer used; from 39 its LX bit is set
 unfoldable pub incremented : Bool → Processor → Processor
 incremented auxiliary p =
     pick auxiliary
-    (pick (eqb (bits 0 6 (registerOf p 5)) 39) (withLx (withRegister p 5 (nextX (registerOf p 5))) (p .lxm) true)
+    (pick (isLast (registerOf p 5)) (withLx (withRegister p 5 (nextX (registerOf p 5))) (p .lxm) true)
     (withRegister p 5 (nextX (registerOf p 5))))
-    (pick (eqb (bits 0 6 (registerOf p 7)) 39) (withLx (withRegister p 7 (nextX (registerOf p 7))) true (p .lxa))
+    (pick (isLast (registerOf p 7)) (withLx (withRegister p 7 (nextX (registerOf p 7))) true (p .lxa))
     (withRegister p 7 (nextX (registerOf p 7))))
 
 unfoldable pub incrementedIf : Bool → Bool → Processor → Processor
@@ -40,7 +36,7 @@ nextPosition r7 = pick (isSet 7 r7) (nextX (r7 - 128)) (r7 + 128)
 -- and sets LXm
 unfoldable pub advanced : Processor → Processor
 advanced p =
-    pick (isSet 7 (registerOf p 7) && eqb (bits 0 6 (registerOf p 7)) 39)
+    pick (isSet 7 (registerOf p 7) && isLast (registerOf p 7))
     (withLx (withRegister p 7 (nextPosition (registerOf p 7))) true (p .lxa))
     (withRegister p 7 (nextPosition (registerOf p 7)))
 

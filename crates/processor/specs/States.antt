@@ -26,7 +26,7 @@ shownBy i phase blocks part =
 abbrev pub shownOf : Processor → Shown
 shownOf p = shownBy (p .indirect) (p .phase) (p .blocks) (p .part)
 
--- Power-up of a part with so many blocks: all registers and both LX bits 0, command 91 hex, phase 0, every row marked
+-- Power-up of a part with so many blocks: all registers and both LX bits 0, command 91 hex, phase 0, every row marked. (Nothing runs.)
 unfoldable pub poweredUp : Part → ℕ → Processor
 poweredUp part blocks =
     record {
@@ -37,6 +37,7 @@ poweredUp part blocks =
       phase = 0;
       marks = allMarked;
       blocks = blocks;
+      busy = false;
       part = part;
     }
 
@@ -46,33 +47,37 @@ powerUp = poweredUp Ef9345 fullBoard
 
 -- the state with one part other
 abbrev pub withRegisters : Processor → List ℕ → Processor
-withRegisters p l = record { registers = l; indirect = p .indirect; lxm = p .lxm; lxa = p .lxa; phase = p .phase; marks = p .marks; blocks = p .blocks; part = p .part }
+withRegisters p l = record { registers = l; indirect = p .indirect; lxm = p .lxm; lxa = p .lxa; phase = p .phase; marks = p .marks; blocks = p .blocks; busy = p .busy; part = p .part }
 
 abbrev pub withLx : Processor → Bool → Bool → Processor
-withLx p m a = record { registers = p .registers; indirect = p .indirect; lxm = m; lxa = a; phase = p .phase; marks = p .marks; blocks = p .blocks; part = p .part }
+withLx p m a = record { registers = p .registers; indirect = p .indirect; lxm = m; lxa = a; phase = p .phase; marks = p .marks; blocks = p .blocks; busy = p .busy; part = p .part }
 
 abbrev pub withMarks : Processor → List Bool → Processor
-withMarks p l = record { registers = p .registers; indirect = p .indirect; lxm = p .lxm; lxa = p .lxa; phase = p .phase; marks = l; blocks = p .blocks; part = p .part }
+withMarks p l = record { registers = p .registers; indirect = p .indirect; lxm = p .lxm; lxa = p .lxa; phase = p .phase; marks = l; blocks = p .blocks; busy = p .busy; part = p .part }
 
 abbrev pub withIndirect : Processor → List ℕ → List Bool → Processor
-withIndirect p i l = record { registers = p .registers; indirect = i; lxm = p .lxm; lxa = p .lxa; phase = p .phase; marks = l; blocks = p .blocks; part = p .part }
+withIndirect p i l = record { registers = p .registers; indirect = i; lxm = p .lxm; lxa = p .lxa; phase = p .phase; marks = l; blocks = p .blocks; busy = p .busy; part = p .part }
 
 abbrev pub withPhase : Processor → ℕ → List Bool → Processor
-withPhase p n l = record { registers = p .registers; indirect = p .indirect; lxm = p .lxm; lxa = p .lxa; phase = n; marks = l; blocks = p .blocks; part = p .part }
+withPhase p n l = record { registers = p .registers; indirect = p .indirect; lxm = p .lxm; lxa = p .lxa; phase = n; marks = l; blocks = p .blocks; busy = p .busy; part = p .part }
+
+-- a move runs, or none
+abbrev pub withBusy : Processor → Bool → Processor
+withBusy p b = record { registers = p .registers; indirect = p .indirect; lxm = p .lxm; lxa = p .lxa; phase = p .phase; marks = p .marks; blocks = p .blocks; busy = b; part = p .part }
 
 -- register n written
 abbrev pub withRegister : Processor → ℕ → ℕ → Processor
 withRegister p n v = withRegisters p (set (p .registers) n v)
 
--- R0 read is the status: bit 7 busy, 6 set if either LX is set, 5 LXm, 4 LXa, others 0. (Busy reads 0.)
+-- R0 read is the status: bit 7 busy, 6 set if either LX is set, 5 LXm, 4 LXa, others 0
 unfoldable pub statusOf : Processor → ℕ
-statusOf p = 64 * oneIf (p .lxm || p .lxa) + 32 * oneIf (p .lxm) + 16 * oneIf (p .lxa)
+statusOf p = 128 * oneIf (p .busy) + 64 * oneIf (p .lxm || p .lxa) + 32 * oneIf (p .lxm) + 16 * oneIf (p .lxa)
 
 -- register n read
 unfoldable pub registerRead : Processor → ℕ → ℕ
 registerRead p n = pick (eqb n 0) (statusOf p) (registerOf p n)
 
--- An accepted KRF, OCT or KRL first clears both LX bits
+-- An accepted KRF, OCT, KRL or move first clears both LX bits
 abbrev pub cleared : Processor → Processor
 cleared p = withLx p false false
 

@@ -18,6 +18,7 @@ use address::triple::is_legal;
 use command::Command;
 use command::answer::Answer;
 use command::command_for;
+use moves::span::is_bare;
 
 // The state after an access, with the answer.
 pub struct Answered {
@@ -43,12 +44,14 @@ fn is_unlisted(command: Command) -> bool
         Command::Krf(_, _) => false,
         Command::Oct(_, _, _) => false,
         Command::Krl(_, _) => false,
+        Command::Move(_, _, _) => false,
         Command::NotListed => true,
     }
 }
 
-// The command's pointer is not legal.
+// The command's pointer is not legal; of a move either.
 fn is_astray(command: Command, p: Processor) -> bool
+    requires { ⌜ Asked command ⌝ }
     ensures { λ r. ⌜ r ≡ isAstray command p ⌝ }
 {
     match command {
@@ -57,13 +60,14 @@ fn is_astray(command: Command, p: Processor) -> bool
         Command::Krf(_, _) => !is_legal(pointer(p, false)),
         Command::Oct(_, auxiliary, _) => !is_legal(pointer(p, auxiliary)),
         Command::Krl(_, _) => !is_legal(pointer(p, false)),
+        Command::Move(_, _, _) => !is_legal(pointer(p, false)) | !is_legal(pointer(p, true)),
         Command::NotListed => false,
     }
 }
 
-// One of its bytes is not fitted, at a pointer that is legal.
+// One of its bytes is not fitted, where each pointer that it uses is legal.
 fn is_unfitted(command: Command, p: Processor) -> bool
-    requires { ⌜ isAstray command p ≡ false ⌝ }
+    requires { ⌜ Asked command × (isAstray command p ≡ false) ⌝ }
     ensures { λ r. ⌜ r ≡ isUnfitted command p ⌝ }
 {
     match command {
@@ -72,6 +76,8 @@ fn is_unfitted(command: Command, p: Processor) -> bool
         Command::Krf(_, _) => !is_code_fitted(p.blocks, pointer(p, false)),
         Command::Oct(_, auxiliary, _) => p.blocks <= pointer(p, auxiliary).z,
         Command::Krl(_, _) => !is_narrow_fitted(p.blocks, pointer(p, false)),
+        Command::Move(bytes, _, _) => is_bare(p.blocks, pointer(p, false), bytes)
+            | is_bare(p.blocks, pointer(p, true), bytes),
         Command::NotListed => false,
     }
 }
@@ -82,13 +88,14 @@ fn effect(p: Processor, memory: &mut [u8], command: Command) -> Processor
     ensures { λ r. ⌜ chip r (now (memory .exit)) ≡ Rattle.processor.specs.Access.effect command (chip p (now (memory .entry))) ⌝ }
 {
     match command {
-        Command::Nop => p,
+        Command::Nop => p.with_busy(false),
         Command::Ind(r, reads) => indirect(p, r, reads),
         Command::Krf(reads, increments) => krf(p, memory, reads, increments),
         Command::Oct(reads, auxiliary, increments) => {
             oct(p, memory, reads, auxiliary, increments)
         }
         Command::Krl(reads, increments) => krl(p, memory, reads, increments),
+        Command::Move(_, _, _) => p.cleared().with_busy(true),
         Command::NotListed => p,
     }
 }

@@ -28,6 +28,7 @@ fn powered_up(part: Part, blocks: u8) -> Processor
         phase: 0,
         marks: [true; 25],
         blocks,
+        busy: false,
         part,
     }
 }

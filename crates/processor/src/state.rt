@@ -1,7 +1,9 @@
 // The processor's state, and its registers.
 ghost use mathlib.Core.Path.{_≡_};
-ghost use Prim.Native.Nat.{_%_};
-ghost use Rattle.processor.specs.States.{statusOf, withRegister, registerRead, cleared, indirectRead, indirectWritten, shownOf};
+ghost use mathlib.Core.Bool.{_||_};
+ghost use Prim.Native.Nat.{_+_, _*_, _%_, _<_};
+ghost use Rattle.basics.specs.Choice.{oneIf};
+ghost use Rattle.processor.specs.States.{statusOf, withRegister, withBusy, registerRead, cleared, indirectRead, indirectWritten, shownOf};
 use board::Part;
 use shown::Shown;
 
@@ -16,6 +18,8 @@ pub struct Processor {
     pub marks: [bool; 25],
     // How many blocks its private memory has.
     pub blocks: u8,
+    // A move runs.
+    pub busy: bool,
     pub part: Part,
 }
 
@@ -32,6 +36,17 @@ impl Processor {
     // R0 read.
     pub fn status(self) -> u8
         ensures { λ r. ⌜ r ≡ statusOf self ⌝ }
+    {
+        let lx = self.lx_bits();
+        if self.busy {
+            return 0x80 + lx;
+        }
+        lx
+    }
+
+    // Bit 6 is set if either of the two is.
+    fn lx_bits(self) -> u8
+        ensures { λ r. ⌜ (r ≡ 64 * oneIf (self .lxm || self .lxa) + 32 * oneIf (self .lxm) + 16 * oneIf (self .lxa)) × (r < 128) ⌝ }
     {
         if self.lxm {
             if self.lxa {
@@ -61,6 +76,14 @@ impl Processor {
     {
         self.lxm = false;
         self.lxa = false;
+        self
+    }
+
+    // Whether a move runs.
+    pub fn with_busy(mut self, busy: bool) -> Self
+        ensures { λ r. ⌜ r ≡ withBusy self busy ⌝ }
+    {
+        self.busy = busy;
         self
     }
 

@@ -39,7 +39,7 @@ impl Answer {
         self.refusal.map_or(Ok(self.value), Err)
     }
 
-    /// Of a power-up, a write or a phase change, whose value is always 0.
+    /// Of a power-up, a write, a step or a phase change, whose value is always 0.
     pub fn done(self) -> Result<(), Refusal> {
         assert_eq!(self.value, 0, "the library answered a value to no question");
         self.refusal.map_or(Ok(()), Err)

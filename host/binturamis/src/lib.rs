@@ -3,10 +3,10 @@
 //! and 40 or 80 columns, only the rows that have changed.
 //!
 //! [`Panel`] owns a processor with its memory, its ROM and its picture. [`power_up`], [`write()`],
-//! [`read`], [`turn`] and [`draw`] do the same to a [`Processor`] and slices of the caller's, which
-//! may have any length; a wrong one is refused. Each refusal is a [`Refusal`], which has its number in
-//! the rules. A [`Board`], which is a [`Part`] with the blocks of its memory, is chosen at power-up; without
-//! a choice it is an EF9345 with 16 blocks.
+//! [`read`], [`step`], [`turn`] and [`draw`] do the same to a [`Processor`] and slices of the caller's,
+//! which may have any length; a wrong one is refused. Each refusal is a [`Refusal`], which has its number
+//! in the rules. A [`Board`], which is a [`Part`] with the blocks of its memory, is chosen at power-up;
+//! without a choice it is an EF9345 with 16 blocks.
 //!
 //! ```
 //! use binturamis::{Panel, Refusal, ROM_BYTES};
@@ -26,6 +26,10 @@
 //! # Ok::<(), Refusal>(())
 //! ```
 //!
+//! A move, which copies bytes from one place of the memory to another, goes on by one position a
+//! [`step`](Panel::step), and until it has ended no register can be written: [`Panel::finish`] steps so
+//! far.
+//!
 //! What is called is the proved library and nothing else. It is compiled for x86-64, where it is
 //! linked; on any other machine each call is carried out by a child process under an emulator,
 //! which is slower by far and answers the same. `make library` makes what is needed for either.
@@ -43,13 +47,14 @@ mod redrawn;
 mod refusal;
 mod size;
 mod state;
+mod stepped;
 mod width;
 
 /// The version of this package, which is the library's.
 pub const VERSION: &str = env!("CARGO_PKG_VERSION");
 
 pub use board::Board;
-pub use operation::{draw, power_up, read, turn, write, Processor};
+pub use operation::{draw, power_up, read, step, turn, write, Processor};
 pub use panel::Panel;
 pub use part::Part;
 pub use redrawn::Redrawn;
@@ -59,5 +64,6 @@ pub use size::{
     PICTURE_BYTES_80, PROCESSOR_BYTES, ROM_BYTES, ROWS, ROW_BYTES, ROW_BYTES_80, STATE_BYTES,
     TS9347_MEMORY_BYTES, TS9347_ROM_BYTES,
 };
-pub use state::State;
+pub use state::{State, STATUS_BUSY};
+pub use stepped::Stepped;
 pub use width::{Width, TGS_80};

@@ -22,6 +22,7 @@ extern "C" {
         value: u8,
     ) -> u32;
     fn binturamis_read(p: *mut Processor, memory: *mut u8, memory_len: usize, address: u8) -> u32;
+    fn binturamis_step(p: *mut Processor, memory: *mut u8, memory_len: usize) -> u32;
     fn binturamis_turn(p: *mut Processor, memory: *const u8, memory_len: usize, phase: u8) -> u32;
     fn binturamis_draw(
         p: *mut Processor,
@@ -53,6 +54,11 @@ pub fn write(processor: &mut Processor, memory: &mut [u8], address: u8, value: u
 pub fn read(processor: &mut Processor, memory: &mut [u8], address: u8) -> u32 {
     // SAFETY: both are borrowed for writing, and the length is the slice's.
     unsafe { binturamis_read(processor, memory.as_mut_ptr(), memory.len(), address) }
+}
+
+pub fn step(processor: &mut Processor, memory: &mut [u8]) -> u32 {
+    // SAFETY: both are borrowed for writing, and the length is the slice's.
+    unsafe { binturamis_step(processor, memory.as_mut_ptr(), memory.len()) }
 }
 
 pub fn turn(processor: &mut Processor, memory: &[u8], phase: u8) -> u32 {

@@ -8,8 +8,8 @@ use crate::refusal::{Refusal, RefusedRead};
 use crate::size::{PROCESSOR_BYTES, STATE_BYTES};
 use crate::state::State;
 
-/// A processor: the registers, the marks, the phase, the part and the board, in bytes that are the
-/// library's.
+/// A processor: the registers, whether a move runs, the marks, the phase, the part and the board, in
+/// bytes that are the library's.
 ///
 /// A clone goes with clones of the memory and the picture that the processor belongs to: the kept
 /// picture is right only if each operation has the state that the one before it left.
@@ -101,7 +101,7 @@ pub fn power_up(processor: &mut Processor, part: u8, blocks: u8) -> Result<(), R
 }
 
 /// Writes the value to the register at the address, and then runs the command if the address asks
-/// for it. Refusals: 1, 2, 3, 4, 11.
+/// for it. Refusals: 1, 2, 10, 3, 4, 11.
 ///
 /// ```
 /// use binturamis::{Processor, Refusal, MEMORY_BYTES};
@@ -126,7 +126,8 @@ pub fn write(
 }
 
 /// Reads the register at the address, and then runs the command if the address asks for it: so a
-/// read may store too. The value is the register's from before the command. Refusals: 1, 2, 3, 4, 11.
+/// read may store too. The value is the register's from before the command. Refusals: 1, 2, 10, 3, 4,
+/// 11.
 ///
 /// ```
 /// use binturamis::{Processor, Refusal, MEMORY_BYTES};
@@ -148,6 +149,42 @@ pub fn read(processor: &mut Processor, memory: &mut [u8], address: u8) -> Result
     answer
         .accepted()
         .map_err(|refusal| RefusedRead::new(refusal, answer.value))
+}
+
+/// Lets the move that runs go on by one character position: 1, 2 or 3 bytes. While none runs it changes
+/// nothing. Refusals: 1.
+///
+/// A move is started by a command, MVB, MVD or MVT. With a stop it ends within 40 steps, and without one it
+/// runs until a NOP, 90 or 91 hex, is written to address 28. Until then [`State::is_busy`] says so, and
+/// every other access than that NOP and a status read at address 20 is refused by 10.
+///
+/// ```
+/// use binturamis::{Processor, Refusal, MEMORY_BYTES};
+///
+/// let mut processor = Processor::power_up();
+/// let mut memory = vec![0; MEMORY_BYTES];
+/// memory[..3].copy_from_slice(b"Rye");
+/// for (address, value) in [
+///     (0x26, 0x00), (0x27, 0x00), // the main pointer to X 0 and Y 0 of block 0,
+///     (0x24, 0x08), (0x25, 37), // the auxiliary one to X 37 and Y 8:
+///     (0x28, 0xD5), // MVB from the main pointer, with a stop
+/// ] {
+///     binturamis::write(&mut processor, &mut memory, address, value)?;
+/// }
+/// assert_eq!(binturamis::write(&mut processor, &mut memory, 0x21, 0), Err(Refusal::Busy));
+///
+/// let mut steps = 0;
+/// while processor.state().is_busy() {
+///     binturamis::step(&mut processor, &mut memory)?;
+///     steps += 1;
+/// }
+/// assert_eq!(steps, 3); // the destination's X was 39 in the third
+/// assert_eq!(memory[69..72], *b"Rye"); // 64 + 37 - 32
+/// # Ok::<(), Refusal>(())
+/// ```
+pub fn step(processor: &mut Processor, memory: &mut [u8]) -> Result<(), Refusal> {
+    let answered = engine::step(processor, memory);
+    Answer::of(answered).done()
 }
 
 /// Sets the phase, 0 or 1; a changed one marks the rows with a cell that flashes. Refusals: 1, 9.

@@ -8,13 +8,15 @@ use crate::redrawn::Redrawn;
 use crate::refusal::{Refusal, RefusedRead};
 use crate::size::ROM_BYTES;
 use crate::state::State;
+use crate::stepped::Stepped;
 use crate::width::Width;
 
 /// A processor with what it needs, so that the premises of the kept picture hold by themselves:
 /// nobody else writes the memory or the picture, and the ROM stays.
 ///
-/// The buffers have the right lengths, so that an access gets of the refusals 2, 3, 4 and 11, a phase
-/// change 9, and a draw 7 and 8. The boards of 16 and 32 blocks never get 11.
+/// The buffers have the right lengths, so that an access gets of the refusals 2, 10, 3, 4 and 11, a step
+/// none, a phase change 9, and a draw 7 and 8. The boards of 16 and 32 blocks never get 11, and a TS9347,
+/// which has no moves, never gets 10.
 ///
 /// ```
 /// use binturamis::{Panel, Refusal, LINE_BYTES, ROM_BYTES};
@@ -101,6 +103,47 @@ impl Panel {
     /// [`read`](crate::read).
     pub fn read(&mut self, address: u8) -> Result<u8, RefusedRead> {
         operation::read(&mut self.processor, &mut self.memory[..], address)
+    }
+
+    /// Lets the move that runs go on by one character position. See [`step`](crate::step).
+    pub fn step(&mut self) -> Result<(), Refusal> {
+        operation::step(&mut self.processor, &mut self.memory[..])
+    }
+
+    /// Steps until no move runs, but not more often than the limit: a move with a stop ends within 40
+    /// steps, and one without never does. Where none runs, no step is made.
+    ///
+    /// ```
+    /// use binturamis::{Panel, Refusal, Stepped, ROM_BYTES};
+    ///
+    /// let mut panel = Panel::new([0; ROM_BYTES]);
+    /// panel.write(0x26, 8)?; // the main pointer to Y 8,
+    /// panel.write(0x24, 9)?; // the auxiliary one to Y 9:
+    /// panel.write(0x28, 0xF5)?; // MVT from the main pointer, with a stop, copies the row.
+    /// assert!(panel.is_busy());
+    /// let stepped = panel.finish(40)?;
+    /// assert_eq!(stepped, Stepped { steps: 40, is_idle: true });
+    ///
+    /// panel.write(0x28, 0xFA)?; // MVT from the auxiliary pointer, without a stop
+    /// let stepped = panel.finish(960)?;
+    /// assert_eq!(stepped, Stepped { steps: 960, is_idle: false });
+    /// panel.write(0x28, 0x91)?; // NOP ends it.
+    /// assert_eq!(panel.finish(960)?, Stepped { steps: 0, is_idle: true });
+    /// # Ok::<(), Refusal>(())
+    /// ```
+    pub fn finish(&mut self, limit: usize) -> Result<Stepped, Refusal> {
+        let mut steps = 0;
+        while steps < limit && self.is_busy() {
+            self.step()?;
+            steps += 1;
+        }
+        let is_idle = !self.is_busy();
+        Ok(Stepped { steps, is_idle })
+    }
+
+    /// Whether a move runs. See [`State::is_busy`].
+    pub fn is_busy(&self) -> bool {
+        self.state().is_busy()
     }
 
     /// Sets the phase. See [`turn`](crate::turn).

@@ -16,7 +16,7 @@ use crate::refusal::Refusal;
 pub enum Part {
     Ef9345 = 0,
     /// The later part: 32 blocks, three ROM sets, every cell bichrome, no page of 80 columns and so no
-    /// KRL.
+    /// KRL, and no moves.
     Ts9347 = 1,
 }
 

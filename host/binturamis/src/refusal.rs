@@ -5,10 +5,10 @@ use std::fmt;
 
 /// A refusal, by its number in the rules.
 ///
-/// An access is checked in the order 1, 2, 3, 4, 11, a phase change 1, 9 and a draw 1, 5, 7, 6, 8; the
-/// first that applies is given. A power-up is checked 14, 12. After 3, 4 and 11 the register access
-/// itself has happened, and nothing else. After 12 and 14 the processor is an EF9345 with 16 blocks.
-/// After every other refusal nothing at all has changed.
+/// An access is checked in the order 1, 2, 10, 3, 4, 11, a phase change 1, 9 and a draw 1, 5, 7, 6, 8; the
+/// first that applies is given. A step is checked by 1 alone, and a power-up 14, 12. After 3, 4 and 11 the
+/// register access itself has happened, and nothing else. After 12 and 14 the processor is an EF9345 with
+/// 16 blocks. After every other refusal nothing at all has changed.
 ///
 /// A later number is a new case, and a `match` that has thought of every refusal is then no longer
 /// complete: the enum is not `non_exhaustive`, so that the compiler says so.
@@ -28,7 +28,7 @@ pub enum Refusal {
     WrongAddress = 2,
     /// A command to execute is not listed.
     NotListed = 3,
-    /// Its pointer has X above 39 or Y from 1 to 7.
+    /// Its pointer, or either one of a move, has X above 39 or Y from 1 to 7.
     BadPointer = 4,
     /// ROM is not 6,400 bytes, or 3,840 of a TS9347.
     WrongRom = 5,
@@ -41,6 +41,9 @@ pub enum Refusal {
     LowOrigin = 8,
     /// Phase is not 0 or 1.
     WrongPhase = 9,
+    /// A move runs, and the access is neither a status read at address 20 nor a NOP, 90 or 91 hex, written
+    /// to address 28.
+    Busy = 10,
     /// One of its bytes lies in a block that is not fitted: the board does not have it.
     NotFitted = 11,
     /// The number of blocks is not 2, 8 or 16 of an EF9345, or 32 of a TS9347.
@@ -51,7 +54,7 @@ pub enum Refusal {
 
 impl Refusal {
     /// Every refusal, by rising number.
-    pub const ALL: [Refusal; 12] = [
+    pub const ALL: [Refusal; 13] = [
         Refusal::WrongMemory,
         Refusal::WrongAddress,
         Refusal::NotListed,
@@ -61,12 +64,13 @@ impl Refusal {
         Refusal::NotBuilt,
         Refusal::LowOrigin,
         Refusal::WrongPhase,
+        Refusal::Busy,
         Refusal::NotFitted,
         Refusal::WrongBoard,
         Refusal::UnknownPart,
     ];
 
-    /// The number in the rules: 1 to 9, 11, 12 or 14.
+    /// The number in the rules: 1 to 12 or 14.
     pub fn number(self) -> u8 {
         self as u8
     }
@@ -91,7 +95,9 @@ impl Refusal {
             Refusal::WrongMemory => "private memory is not 1,024 bytes for each block of the board",
             Refusal::WrongAddress => "the address's high four bits are not 2",
             Refusal::NotListed => "a command to execute is not listed",
-            Refusal::BadPointer => "the command's pointer has X above 39 or Y from 1 to 7",
+            Refusal::BadPointer => {
+                "the command's pointer, or either one of a move, has X above 39 or Y from 1 to 7"
+            }
             Refusal::WrongRom => "ROM is not 6,400 bytes, or 3,840 of a TS9347",
             Refusal::WrongPicture => "picture is not 40,000 bytes, or 60,000 in 80 columns",
             Refusal::NotBuilt => {
@@ -100,6 +106,10 @@ impl Refusal {
             }
             Refusal::LowOrigin => "origin YOR below 8",
             Refusal::WrongPhase => "phase is not 0 or 1",
+            Refusal::Busy => {
+                "a move runs, and the access is neither a status read at address 20 nor a NOP \
+                 written to address 28"
+            }
             Refusal::NotFitted => "a byte of the command lies in a block that is not fitted",
             Refusal::WrongBoard => {
                 "the number of blocks is not 2, 8 or 16 of an EF9345, or 32 of a TS9347"

@@ -4,6 +4,9 @@ use crate::part::Part;
 use crate::size::{ROWS, STATE_BYTES};
 use crate::width::Width;
 
+/// The bit of the status that says that a move runs.
+pub const STATUS_BUSY: u8 = 0x80;
+
 /// What a processor holds. It is told, not lent: changing it changes nothing.
 ///
 /// ```
@@ -70,6 +73,12 @@ impl State {
             part: bytes[40],
             blocks: bytes[41],
         }
+    }
+
+    /// Whether a move runs: then accesses are refused by 10, but for a status read at address 20 and a NOP
+    /// written to address 28.
+    pub fn is_busy(&self) -> bool {
+        self.status & STATUS_BUSY != 0
     }
 
     /// The width of the page, which says how long a picture a draw asks for. A TS9347 has no page of 80

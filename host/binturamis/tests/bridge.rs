@@ -6,7 +6,7 @@ use std::io::Write;
 use std::path::Path;
 use std::process::{Command, Output, Stdio};
 
-const GREETING: &[u8] = b"binturamis bridge 4\n";
+const GREETING: &[u8] = b"binturamis bridge 5\n";
 
 /// What the bridge does with these bytes and no more.
 fn given(bytes: &[u8]) -> Output {
@@ -41,6 +41,12 @@ fn turn(length: u64, start: u64, count: u64) -> Vec<u8> {
     [&b"T\0\0"[..], &[0; 64], &numbers].concat()
 }
 
+/// A step of a processor that is idle, with a memory of so many zeros.
+fn step(length: u64) -> Vec<u8> {
+    let numbers = [length, 0, 0].map(u64::to_le_bytes).concat();
+    [&b"M\0\0"[..], &[0; 64], &numbers].concat()
+}
+
 #[test]
 fn it_ends_well_with_its_input() {
     let ended = given(&[]);
@@ -70,6 +76,19 @@ fn it_powers_boards_up() {
         assert_eq!(answer[..4], [0, 0, number, 0]);
         assert_eq!(answer[4 + 40..][..2], left, "what the state tells");
         assert_eq!(answer.len(), 4 + 48);
+    }
+}
+
+#[test]
+fn it_steps() {
+    for (length, number) in [(16_384, 0), (16_383, 1), (0, 1)] {
+        let answered = given(&step(length));
+        assert!(answered.status.success());
+        let answer = &answered.stdout[GREETING.len() + 64..];
+        assert_eq!(answer[..4], [0, 0, number, 0]);
+        // The memory has no byte that the step has changed: a start and a count.
+        assert_eq!(answer.len(), 4 + 48 + 16);
+        assert_eq!(answer[4 + 48 + 8..], [0; 8]);
     }
 }
 

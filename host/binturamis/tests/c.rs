@@ -91,6 +91,13 @@ fn the_example_of_a_ts9347_prints_what_is_expected() -> Result<(), String> {
     Ok(())
 }
 
+#[test]
+fn the_example_of_a_scroll_prints_what_is_expected() -> Result<(), String> {
+    let output = run(&top().join("examples/scroll.c"), "scroll")?;
+    assert_eq!(output, read(top().join("examples/scroll.expected"))?);
+    Ok(())
+}
+
 /// Ends with 0 if the header takes an answer apart as it says: the number, and a value of 16 bits.
 const TAKEN_APART: &str = r#"
 #include "binturamis.h"
@@ -241,6 +248,93 @@ fn the_boards_are_there_by_the_headers_names() -> Result<(), String> {
     Ok(())
 }
 
+/// The moves by the header's names: each of the twelve with one step, by the bytes that it has moved and whether it
+/// goes on; then what is refused while one runs, and the NOP that ends it.
+const MOVES: &str = r#"
+#include <stdio.h>
+#include <string.h>
+
+#include "binturamis.h"
+
+static binturamis_processor p;
+static uint8_t memory[BINTURAMIS_MEMORY_BYTES];
+
+static unsigned put(uint8_t address, uint8_t value)
+{
+    return (unsigned)binturamis_number(binturamis_write(&p, memory, sizeof memory, address, value));
+}
+
+static unsigned is_busy(void)
+{
+    return (binturamis_read(&p, memory, sizeof memory, BINTURAMIS_R0) & BINTURAMIS_STATUS_BUSY) != 0;
+}
+
+static void step(size_t length)
+{
+    printf(" %u", (unsigned)binturamis_step(&p, memory, length));
+}
+
+/* From X 39 and Y 0, which has 1, 2 and 3 in the three blocks, to X 0 and Y 8. */
+static void try_move(uint8_t command, uint8_t from, uint8_t stop)
+{
+    const uint8_t is_from_main = from == BINTURAMIS_FROM_MAIN;
+    memset(memory, 0, sizeof memory);
+    for (unsigned block = 0; block < 3; block++)
+        memory[BINTURAMIS_BLOCK_BYTES * block + 39] = (uint8_t)(block + 1);
+    binturamis_power_up(&p);
+    put(is_from_main ? BINTURAMIS_R7 : BINTURAMIS_R5, 39);
+    put(is_from_main ? BINTURAMIS_R4 : BINTURAMIS_R6, 8);
+    printf("%02X %u", (unsigned)(command + from + stop), put(BINTURAMIS_R0 + BINTURAMIS_EXECUTE, (uint8_t)(command + from + stop)));
+    printf(" %u", is_busy());
+    printf(" %u", put(BINTURAMIS_R1, 0));
+    step(sizeof memory);
+    printf(" %u:", is_busy());
+    for (unsigned block = 0; block < 3; block++)
+        printf(" %u", (unsigned)memory[BINTURAMIS_BLOCK_BYTES * block + 256]);
+    printf("\n");
+}
+
+int main(void)
+{
+    static const uint8_t commands[] = {BINTURAMIS_MVB, BINTURAMIS_MVD, BINTURAMIS_MVT};
+    for (unsigned i = 0; i < 3; i++) {
+        try_move(commands[i], BINTURAMIS_FROM_MAIN, BINTURAMIS_STOP);
+        try_move(commands[i], BINTURAMIS_FROM_MAIN, BINTURAMIS_NO_STOP);
+        try_move(commands[i], BINTURAMIS_FROM_AUXILIARY, BINTURAMIS_STOP);
+        try_move(commands[i], BINTURAMIS_FROM_AUXILIARY, BINTURAMIS_NO_STOP);
+    }
+    put(BINTURAMIS_R0 + BINTURAMIS_EXECUTE, BINTURAMIS_NOP);
+    printf("%u", is_busy());
+    step(sizeof memory - 1);
+    step(sizeof memory);
+    printf("\n");
+    return 0;
+}
+"#;
+
+#[test]
+fn the_moves_are_there_by_the_headers_names() -> Result<(), String> {
+    let output = run_text(MOVES, "moves")?;
+    // The byte, its answer, busy, what a write gets, the step's answer, busy after it, and the bytes moved.
+    let wanted = [
+        "D5 0 1 10 0 0: 1 0 0\n",
+        "D6 0 1 10 0 1: 1 0 0\n",
+        "D9 0 1 10 0 0: 1 0 0\n",
+        "DA 0 1 10 0 1: 1 0 0\n",
+        "E5 0 1 10 0 0: 1 2 0\n",
+        "E6 0 1 10 0 1: 1 2 0\n",
+        "E9 0 1 10 0 0: 1 2 0\n",
+        "EA 0 1 10 0 1: 1 2 0\n",
+        "F5 0 1 10 0 0: 1 2 3\n",
+        "F6 0 1 10 0 1: 1 2 3\n",
+        "F9 0 1 10 0 0: 1 2 3\n",
+        "FA 0 1 10 0 1: 1 2 3\n",
+        "0 65536 0\n",
+    ];
+    assert_eq!(output, wanted.concat());
+    Ok(())
+}
+
 #[test]
 fn the_header_is_c_and_cpp_by_itself() -> Result<(), String> {
     let header = top().join("include/binturamis.h");
@@ -307,6 +401,7 @@ fn the_headers_sizes_are_this_packages() -> Result<(), String> {
         ("80_ROW_BYTES", binturamis::ROW_BYTES_80),
         ("80_LINE_BYTES", binturamis::LINE_BYTES_80),
         ("TGS_80", usize::from(binturamis::TGS_80)),
+        ("STATUS_BUSY", usize::from(binturamis::STATUS_BUSY)),
     ] {
         assert_eq!(constant(&header, name), size, "{name}");
     }
@@ -327,6 +422,7 @@ fn the_headers_refusals_are_this_packages() -> Result<(), String> {
         "NOT_BUILT",
         "LOW_ORIGIN",
         "WRONG_PHASE",
+        "BUSY",
         "NOT_FITTED",
         "WRONG_BOARD",
         "UNKNOWN_PART",

@@ -36,6 +36,7 @@ fn apply(panel: &mut Panel, operation: Operation) -> String {
         Operation::PowerUp { .. } => panic!("a panel is powered up when it is made"),
         Operation::Write { address, value } => format!("{:?}", panel.write(address, value)),
         Operation::Read { address } => format!("{:?}", panel.read(address)),
+        Operation::Step => format!("{:?}", panel.step()),
         Operation::Turn { phase } => format!("{:?}", panel.turn(phase)),
         Operation::Draw => format!("{:?}", panel.draw()),
     }

@@ -8,9 +8,9 @@ use binturamis::{
 };
 
 #[test]
-fn the_numbers_are_1_to_9_and_11_and_12_and_14() {
+fn the_numbers_are_1_to_12_and_14() {
     let numbers = Refusal::ALL.map(Refusal::number);
-    assert_eq!(numbers, [1, 2, 3, 4, 5, 6, 7, 8, 9, 11, 12, 14]);
+    assert_eq!(numbers, [1, 2, 3, 4, 5, 6, 7, 8, 9, 10, 11, 12, 14]);
     for number in 0..=255 {
         let found = Refusal::of_number(number).map(Refusal::number);
         assert_eq!(found, numbers.contains(&number).then_some(number));
@@ -24,13 +24,15 @@ fn the_words_are_the_rules() {
         "refusal 1: private memory is not 1,024 bytes for each block of the board",
         "refusal 2: the address's high four bits are not 2",
         "refusal 3: a command to execute is not listed",
-        "refusal 4: the command's pointer has X above 39 or Y from 1 to 7",
+        "refusal 4: the command's pointer, or either one of a move, has X above 39 or Y from 1 to 7",
         "refusal 5: ROM is not 6,400 bytes, or 3,840 of a TS9347",
         "refusal 6: picture is not 40,000 bytes, or 60,000 in 80 columns",
         "refusal 7: TGS bit 7 or 6 set without the other, or TGS bit 5 or PAT bit 7 set; \
          of a TS9347, TGS bits 7 and 6 both set too",
         "refusal 8: origin YOR below 8",
         "refusal 9: phase is not 0 or 1",
+        "refusal 10: a move runs, and the access is neither a status read at address 20 nor a NOP \
+         written to address 28",
         "refusal 11: a byte of the command lies in a block that is not fitted",
         "refusal 12: the number of blocks is not 2, 8 or 16 of an EF9345, or 32 of a TS9347",
         "refusal 14: the part is not 0, an EF9345, or 1, a TS9347",
@@ -93,6 +95,8 @@ fn a_memory_of_another_length_is_refused_by_1() {
         assert_eq!(written, Err(Refusal::WrongMemory));
         let read = binturamis::read(processor, memory, 0x00).expect_err("it is refused");
         assert_eq!((read.refusal(), read.value()), (Refusal::WrongMemory, None));
+        let stepped = binturamis::step(processor, memory);
+        assert_eq!(stepped, Err(Refusal::WrongMemory));
         let turned = binturamis::turn(processor, memory, 2);
         assert_eq!(turned, Err(Refusal::WrongMemory));
         assert_eq!(*processor, Processor::power_up());
@@ -173,7 +177,7 @@ fn the_picture_of_the_other_width_is_refused_by_6() -> Result<(), Refusal> {
 }
 
 #[test]
-fn a_panel_refuses_by_2_3_4_7_8_and_9() -> Result<(), Refusal> {
+fn a_panel_refuses_by_2_3_4_7_8_9_and_10() -> Result<(), Refusal> {
     let mut panel = Panel::new([0; ROM_BYTES]);
     assert_eq!(panel.draw(), Err(Refusal::LowOrigin));
     assert_eq!(panel.turn(2), Err(Refusal::WrongPhase));
@@ -190,6 +194,15 @@ fn a_panel_refuses_by_2_3_4_7_8_and_9() -> Result<(), Refusal> {
     panel.write(0x28, 0x83)?;
     assert_eq!(panel.draw(), Err(Refusal::NotBuilt));
     assert_eq!(panel.state().marks, [true; ROWS]);
+
+    panel.write(0x26, 0x08)?;
+    panel.write(0x28, 0xF5)?; // MVT with a stop
+    let busy = panel.clone();
+    assert_eq!(panel.write(0x21, 0x41), Err(Refusal::Busy));
+    let refused = panel.read(0x21).expect_err("it is refused");
+    assert_eq!((refused.refusal(), refused.value()), (Refusal::Busy, None));
+    assert_eq!(refused.to_string(), Refusal::Busy.to_string());
+    assert_eq!(panel, busy);
     Ok(())
 }
 

@@ -114,9 +114,18 @@ fn is_listed(command: u8) -> bool {
     }
 }
 
+/// The four forms of KRL, and the moves: with one of two bits for the source, and one of two for the stop.
+fn is_of_ef9345_alone(command: u8) -> bool {
+    match command {
+        0x50 | 0x51 | 0x58 | 0x59 => true,
+        0xD0..=0xFF => matches!(command % 16, 0x5 | 0x6 | 0x9 | 0xA),
+        _ => false,
+    }
+}
+
 #[test]
-fn every_other_command_is_refused_by_3_krl_too() -> Result<(), Refusal> {
-    let mut listed = 0;
+fn every_other_command_is_refused_by_3_krl_and_moves_too() -> Result<(), Refusal> {
+    let (mut listed, mut besides) = (0, 0);
     for command in 0..=255 {
         let mut panel = panel()?;
         let wanted = match is_listed(command) {
@@ -125,12 +134,16 @@ fn every_other_command_is_refused_by_3_krl_too() -> Result<(), Refusal> {
         };
         assert_eq!(panel.write(0x28, command), wanted, "{command:02X}");
         listed += usize::from(wanted.is_ok());
-        // An EF9345 has the four forms of KRL besides.
-        let is_krl = matches!(command, 0x50 | 0x51 | 0x58 | 0x59);
         let of_ef9345 = Panel::new([0; ROM_BYTES]).write(0x28, command);
-        assert_eq!(of_ef9345.is_ok(), wanted.is_ok() || is_krl, "{command:02X}");
+        let has_besides = is_of_ef9345_alone(command);
+        besides += usize::from(has_besides);
+        assert_eq!(
+            of_ef9345.is_ok(),
+            wanted.is_ok() || has_besides,
+            "{command:02X}"
+        );
     }
-    assert_eq!(listed, 4 + 8 + 10 + 2);
+    assert_eq!((listed, besides), (4 + 8 + 10 + 2, 4 + 12));
     Ok(())
 }
 

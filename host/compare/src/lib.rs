@@ -19,6 +19,7 @@ mod library;
 pub mod met;
 pub mod page;
 pub mod pair;
+pub mod position;
 pub mod report;
 mod second_program;
 pub mod seen;

@@ -40,6 +40,10 @@ impl Side for Processor {
                 Ok(value) => answer(0, value),
                 Err(refused) => answer(refused.refusal().number(), refused.value().unwrap_or(0)),
             },
+            Operation::Step => match binturamis::step(self, lent.memory) {
+                Ok(()) => answer(0, 0),
+                Err(refusal) => answer(refusal.number(), 0),
+            },
             Operation::Turn { phase } => match binturamis::turn(self, lent.memory, phase) {
                 Ok(()) => answer(0, 0),
                 Err(refusal) => answer(refusal.number(), 0),

@@ -5,6 +5,7 @@ mod boards;
 mod fitted;
 mod in_mode;
 mod krl;
+mod moves;
 
 use std::fmt;
 
@@ -16,6 +17,7 @@ pub use blocks::Blocks;
 pub use boards::Boards;
 pub use fitted::Fitted;
 pub use in_mode::InMode;
+pub use moves::Moves;
 
 /// On one board.
 #[derive(Default)]
@@ -33,6 +35,7 @@ pub struct Met {
     types: [[usize; 2]; TYPES.len()],
     pub fitted: Fitted,
     pub blocks: Blocks,
+    pub moves: Moves,
 }
 
 impl Met {
@@ -54,6 +57,7 @@ impl Met {
         }
         self.fitted.look(step);
         self.blocks.look(step);
+        self.moves.look(step);
     }
 
     fn modes(&self) -> [&InMode; 3] {
@@ -96,6 +100,7 @@ impl fmt::Display for Met {
         writeln!(to, "numbers 0 to 14 in all: {numbers:?} times")?;
         writeln!(to, "{}", self.fitted)?;
         writeln!(to, "{}", self.blocks)?;
+        writeln!(to, "{}", self.moves)?;
         let names = TYPES.map(|(name, _)| name);
         writeln!(to, "cells of {names:?}, double height: {:?}", self.types)?;
         writeln!(to, "left with LXm, LXa set: {:?} times", self.lx)?;

@@ -14,6 +14,8 @@ pub struct Report {
     pub indirect: [u8; 8],
     pub lxm: u8,
     pub lxa: u8,
+    /// Whether a move runs.
+    pub busy: u8,
     pub phase: u8,
     pub marks: [u8; ROWS],
     /// Of the board.
@@ -33,6 +35,7 @@ impl Report {
             indirect: [0, left.tgs, left.mat, left.pat, left.dor, 0, 0, left.ror],
             lxm: u8::from(left.lx_main),
             lxa: u8::from(left.lx_auxiliary),
+            busy: u8::from(left.busy),
             phase: left.phase,
             marks: left.marks.map(u8::from),
             part,
@@ -41,9 +44,9 @@ impl Report {
     }
 
     /// What the library answers and leaves, by the 48 bytes in which it tells its state. Of the
-    /// status LXm and LXa are kept, since a status that is not theirs fails here.
+    /// status LXm, LXa and busy are kept, since a status that is not theirs fails here.
     pub fn told(answer: Answer, state: &[u8; STATE_BYTES]) -> Report {
-        let (lxm, lxa) = lx_bits(state[8]);
+        let (busy, [lxm, lxa]) = (state[8] / 0x80, lx_bits(state[8] % 0x80));
         assert_eq!(state[42..], [0; 6], "the bytes past the blocks");
         let [tgs, mat, pat, dor, ror] = part(state, 9);
         Report {
@@ -55,6 +58,7 @@ impl Report {
             indirect: [0, tgs, mat, pat, dor, 0, 0, ror],
             lxm,
             lxa,
+            busy,
             phase: state[14],
             marks: part(state, 15),
             part: state[40],
@@ -63,28 +67,31 @@ impl Report {
     }
 
     /// The bytes that the library keeps of a processor in this state. They have all eight indirect
-    /// registers, while it tells five. Of the boards that of 16 blocks is a 0, and that of 32, the TS9347's, a 4.
+    /// registers, while it tells five. Of the boards that of 16 blocks is a 0, and that of 32, the TS9347's, a
+    /// 4; in the same byte 16 more says that a move runs.
     pub fn packed(&self) -> [u8; PROCESSOR_BYTES] {
         let flags = [self.lxm, self.lxa, self.phase];
         let parts: [&[u8]; 4] = [&self.registers, &self.indirect, &flags, &self.marks];
         let mut bytes = parts.concat();
-        bytes.push(match self.blocks {
+        let board = match self.blocks {
             16 => 0,
             32 => 4,
             blocks => blocks,
-        });
+        };
+        bytes.push(board + 16 * self.busy);
         bytes.resize(PROCESSOR_BYTES, 0);
         part(&bytes, 0)
     }
 }
 
-/// LXm and LXa of a status: "bit 7 busy, 6 set if either LX is set, 5 LXm, 4 LXa, others 0".
-fn lx_bits(status: u8) -> (u8, u8) {
+/// LXm and LXa of a status without its bit 7: "bit 7 busy, 6 set if either LX is set, 5 LXm, 4 LXa, others
+/// 0".
+fn lx_bits(status: u8) -> [u8; 2] {
     match status {
-        0b0000_0000 => (0, 0),
-        0b0110_0000 => (1, 0),
-        0b0101_0000 => (0, 1),
-        0b0111_0000 => (1, 1),
+        0b0000_0000 => [0, 0],
+        0b0110_0000 => [1, 0],
+        0b0101_0000 => [0, 1],
+        0b0111_0000 => [1, 1],
         _ => panic!("the status is {status:02X}"),
     }
 }

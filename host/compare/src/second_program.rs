@@ -27,6 +27,7 @@ impl Side for Processor {
             }
             Operation::Write { address, value } => self.write(lent.memory, address, value),
             Operation::Read { address } => self.read(lent.memory, address),
+            Operation::Step => self.step(lent.memory),
             Operation::Turn { phase } => self.turn(lent.memory, phase),
             Operation::Draw => self.draw(lent.memory, lent.rom, lent.picture),
         }

@@ -12,10 +12,11 @@ use second::{Board, Mode, Operation, Part, Processor, ROWS};
 use crate::asked::Asked;
 use crate::lengths::Lengths;
 use crate::pair::Pair;
+use crate::position::Position;
 use crate::report::Report;
 use crate::short::short_palette;
 use crate::types::{type_of, TYPES};
-use crate::unplanned::unplanned;
+use crate::unplanned::{abort, unplanned};
 
 /// The operations of one trial.
 pub const OPERATIONS: u64 = 500;
@@ -30,6 +31,8 @@ pub struct Trial {
     unplanned: VecDeque<Asked>,
     /// The mode of the last accepted draw.
     drawn: Option<Mode>,
+    /// The places to which the move that runs has moved a byte.
+    moved: Vec<usize>,
 }
 
 /// An operation that both did, with the same outcome.
@@ -40,6 +43,12 @@ pub struct Step {
     pub report: Report,
     /// Whether a byte of the memory is another than before.
     pub stored: bool,
+    /// What a step has moved, if one did.
+    pub position: Option<Position>,
+    /// Whether a byte of it was read where an earlier byte of it had been stored.
+    pub sees_itself: bool,
+    /// Whether a byte of it was read where an earlier step of the same move had stored one.
+    pub sees_earlier: bool,
     /// Whether it is a draw of every row, for which the library was lent another picture than the
     /// one that was kept.
     pub other_picture: bool,
@@ -65,6 +74,7 @@ impl Trial {
             pair: Pair::begin_board(seed, board, memory, rom),
             unplanned: VecDeque::new(),
             drawn: None,
+            moved: Vec::new(),
         }
     }
 
@@ -80,9 +90,14 @@ impl Trial {
         let bytes = self.pair.library.processor.bytes();
         assert_eq!(*bytes, report.packed(), "{asked:?}: the bytes");
         let is_drawn = asked.operation == Operation::Draw && report.number == 0;
+        let is_step = asked.operation == Operation::Step && report.number == 0;
+        let position = Position::next(&before).filter(|_| is_step);
         Step {
             asked,
             stored: self.pair.second.memory != memory,
+            position,
+            sees_itself: position.is_some_and(|position| position.sees_itself(&memory)),
+            sees_earlier: self.sees_earlier(position),
             other_picture,
             other_mode: is_drawn && self.has_turned(before.mode()),
             short: self.short(before.marks, is_drawn),
@@ -90,6 +105,18 @@ impl Trial {
             before,
             report,
         }
+    }
+
+    /// Whether a step reads what an earlier one of the move has stored. A move that ends is forgotten.
+    fn sees_earlier(&mut self, position: Option<Position>) -> bool {
+        let sources = position.map_or(vec![], Position::sources);
+        let sees = sources.iter().any(|place| self.moved.contains(place));
+        self.moved
+            .extend(position.map_or(vec![], Position::destinations));
+        if !self.pair.second.processor.busy {
+            self.moved.clear();
+        }
+        sees
     }
 
     /// What the second program draws from.
@@ -155,9 +182,13 @@ impl Trial {
     }
 
     /// Most often the sequence's next operation with the right lengths. Unplanned ones come before
-    /// it and not in its place, so that plans are still carried out.
+    /// it and not in its place, so that plans are still carried out. While a move runs most of them begin
+    /// with its end, since it would refuse them.
     fn asked(&mut self) -> Asked {
         if self.unplanned.is_empty() && self.random.one_in(8) {
+            if self.pair.second.processor.busy && !self.random.one_in(4) {
+                self.unplanned.push_back(abort(&mut self.random));
+            }
             self.unplanned
                 .extend(unplanned(&mut self.random, self.board));
         }

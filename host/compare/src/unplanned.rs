@@ -2,6 +2,7 @@
 //! pages and boards that are.
 
 use second::random::Random;
+use second::sequence::MOVES;
 use second::{Board, Mode, Operation, Part};
 
 use crate::asked::Asked;
@@ -11,7 +12,7 @@ use crate::page::any_ror;
 /// KRL's four forms.
 const KRL: [u8; 4] = [0x50, 0x51, 0x58, 0x59];
 
-/// The commands that use a pointer.
+/// The commands that use a pointer, but for the moves, which use both.
 const POINTING: [u8; 16] = [
     0x00, 0x01, 0x08, 0x09, 0x30, 0x31, 0x34, 0x35, 0x38, 0x39, 0x3C, 0x3D, 0x50, 0x51, 0x58, 0x59,
 ];
@@ -19,7 +20,7 @@ const POINTING: [u8; 16] = [
 /// A few operations, to a board. Sequences keep commands, pointers and pages legal for the most part, so
 /// that refusals 3, 4, 7 and 8 are rare in them, and they power nothing up.
 pub fn unplanned(random: &mut Random, board: Board) -> Vec<Asked> {
-    match random.below(49) {
+    match random.below(60) {
         0..=3 => any_command(random),
         4..=9 => any_pointer(random),
         10..=14 => other_page(random),
@@ -27,23 +28,26 @@ pub fn unplanned(random: &mut Random, board: Board) -> Vec<Asked> {
         19 => other_board(random, board),
         20 | 21 => no_board(random, board),
         22 => vec![other_picture(random, board)],
+        23..=25 => any_move(random, board),
+        26..=28 => refused_move(random),
         _ => vec![any_operation(random, board)],
     }
 }
 
 /// Any operation, lent buffers of any lengths.
 fn any_operation(random: &mut Random, board: Board) -> Asked {
-    let operation = match random.below(4) {
-        0 => Operation::Write {
+    let operation = match random.below(17) {
+        0..=3 => Operation::Write {
             address: address(random),
             value: random.byte(),
         },
-        1 => Operation::Read {
+        4..=7 => Operation::Read {
             address: address(random),
         },
-        2 => Operation::Turn {
+        8..=11 => Operation::Turn {
             phase: phase(random),
         },
+        12 => Operation::Step,
         _ => Operation::Draw,
     };
     Asked::with(operation, Lengths::any(random, board))
@@ -162,6 +166,88 @@ fn any_pointer(random: &mut Random) -> Vec<Asked> {
     asked.push(write(0x20, random.choice(&POINTING)));
     asked.push(executing(random));
     asked
+}
+
+/// A move whose pointers are in blocks 0 and 1, so that it begins on every board that has moves, and then
+/// steps and accesses while it runs; now and then where TGS names no mode, and then a page again. Most often
+/// it is ended.
+fn any_move(random: &mut Random, board: Board) -> Vec<Asked> {
+    let mut asked = Vec::new();
+    let in_no_mode = random.one_in(3);
+    if in_no_mode {
+        asked.extend([write(0x21, 0x40), write(0x28, 0x81)]);
+        asked.push(any_operation(random, board));
+    }
+    for (down, across) in [(0x24, 0x25), (0x26, 0x27)] {
+        let y = random.choice(&[0, 8, 20, 31]);
+        let x = random.choice(&[0, 1, 12, 36, 38, 39]);
+        let z0 = random.choice(&[0x00, 0x00, 0x80]);
+        asked.extend([write(down, y), write(across, z0 + x)]);
+    }
+    let (high, low) = (
+        random.choice(&[0xD0, 0xD0, 0xE0, 0xF0]),
+        random.choice(&[0x05, 0x06, 0x09, 0x0A]),
+    );
+    asked.push(write(0x28, high + low));
+    for _ in 0..1 + random.below(8) {
+        asked.push(while_busy(random, board));
+    }
+    if in_no_mode {
+        let tgs = random.choice(Mode::all_of(board.part)).tgs();
+        asked.extend([abort(random), write(0x21, tgs), write(0x28, 0x81)]);
+    } else if !random.one_in(6) {
+        asked.push(abort(random));
+    }
+    asked
+}
+
+/// A step, or an access that a move which runs refuses, or one that it does not.
+fn while_busy(random: &mut Random, board: Board) -> Asked {
+    let (byte, nop) = (random.byte(), random.choice(&[0x90, 0x91]));
+    match random.below(14) {
+        0..=4 => Asked::right(Operation::Step),
+        5 | 6 => Asked::with(Operation::Step, Lengths::any(random, board)),
+        7 => Asked::right(Operation::Read {
+            address: 0x20 + byte % 16,
+        }),
+        8 => Asked::right(Operation::Read { address: 0x20 }),
+        9 => Asked::right(Operation::Read { address: 0x28 }),
+        10 => write(0x20, nop),
+        11 => write(0x21 + byte % 7, random.byte()),
+        12 => write(0x28 + byte % 8, random.byte()),
+        _ => write(0x20 + byte % 16, nop),
+    }
+}
+
+/// A move with a pointer that is illegal, or in a block that a smaller board does not have, and a step of
+/// what may have begun all the same.
+fn refused_move(random: &mut Random) -> Vec<Asked> {
+    let mut registers = [0x08, 0x00, 0x08, 0x00];
+    match random.below(6) {
+        0 => registers[1] = 40 + random.byte() % 24,
+        1 => registers[3] = 40 + random.byte() % 24,
+        2 => registers[random.choice(&[0, 2])] = 1 + random.byte() % 7,
+        // Blocks 8 and 12 of either pointer, and any of both.
+        3 => registers[2] |= random.choice(&[0x80, 0x40, 0xC0]),
+        4 => registers[2] |= 0x20 + random.choice(&[0x80, 0xC0]),
+        _ => {
+            registers[0] |= random.byte() & 0xE0;
+            registers[2] |= 0x80 | random.byte() & 0xE0;
+        }
+    }
+    let mut asked: Vec<Asked> = (0x24..)
+        .zip(registers)
+        .map(|(address, value)| write(address, value))
+        .collect();
+    asked.push(write(0x20, random.choice(&MOVES)));
+    asked.push(executing(random));
+    asked.extend([Asked::right(Operation::Step), abort(random)]);
+    asked
+}
+
+/// The end of a move that runs: a NOP at an upper address.
+pub fn abort(random: &mut Random) -> Asked {
+    write(0x28, random.choice(&[0x90, 0x91]))
 }
 
 /// KRL at a position of any row and block, one time in three the last of a row.

@@ -147,7 +147,7 @@ fn a_refused_write_at_the_end_of_a_chunk() -> Result<(), String> {
 /// How often each number was printed, and how often a line with colours.
 #[derive(Debug, Default)]
 struct Met {
-    writes: [usize; 10],
+    writes: [usize; 12],
     draws: [usize; 10],
     coloured: usize,
 }

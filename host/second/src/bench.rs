@@ -72,6 +72,10 @@ impl Bench {
         self.processor.turn(&self.memory, phase)
     }
 
+    pub fn step(&mut self) -> Answer {
+        self.processor.step(&mut self.memory)
+    }
+
     pub fn draw(&mut self) -> Answer {
         self.processor
             .draw(&self.memory, &self.rom, &mut self.picture)
@@ -99,6 +103,7 @@ impl Bench {
             Operation::Read { address } => {
                 self.processor.read_with(rules, &mut self.memory, address)
             }
+            Operation::Step => self.processor.step_with(rules, &mut self.memory),
             Operation::Turn { phase } => self.processor.turn_with(rules, &self.memory, phase),
             Operation::Draw => {
                 self.fit_picture(0xEE);
@@ -156,6 +161,16 @@ impl Bench {
         self.write(0x27, across);
         self.write(0x20, 0x30);
         self.write(0x29, value)
+    }
+
+    /// R4 to R7 so that the two pointers are these.
+    pub fn point(&mut self, main: Pointer, auxiliary: Pointer) {
+        let (r6, r7) = main.main_registers(self.part());
+        let (r4, r5, z3) = auxiliary.auxiliary_registers(self.part());
+        let z3 = if z3 == Some(true) { 0x40 } else { 0 };
+        for (address, value) in [(0x24, r4), (0x25, r5), (0x26, r6 + z3), (0x27, r7)] {
+            self.write(address, value);
+        }
     }
 
     /// Ten user slices of a character in a block, from slice 0.

@@ -3,7 +3,8 @@
 use crate::address::{code_block, fitted, place};
 use crate::command::{attributes_block, Command, Indirect};
 use crate::packing::{in_both_halves, nibble};
-use crate::pointer::Which;
+use crate::page::Page;
+use crate::pointer::{Pointer, Which};
 use crate::processor::Processor;
 use crate::rules::Rules;
 use crate::ROWS;
@@ -14,18 +15,12 @@ impl Processor {
         let Some(command) = Command::listed(self.board.part, self.registers[0]) else {
             return 3;
         };
-        if let Some(which) = command.pointer() {
-            let pointer = rules.pointer(self.board.part, &self.registers, which);
-            if !pointer.legal() {
-                return 4;
-            }
-            // "11, a command any of whose bytes lies in a block not fitted, after 4".
-            let blocks = command.blocks(pointer.z);
-            if blocks.iter().any(|z| !fitted(*z, self.board.blocks)) {
-                return 11;
-            }
-            // "An accepted KRF or OCT first clears both LX bits", and so does KRL: those are the
-            // commands that use a pointer.
+        if let Some(number) = self.pointer_refusal(rules, command) {
+            return number;
+        }
+        // "An accepted KRF or OCT first clears both LX bits", and so do KRL and the moves: those are the
+        // commands that use a pointer.
+        if !command.pointers().is_empty() {
             self.lx_main = false;
             self.lx_auxiliary = false;
         }
@@ -33,9 +28,30 @@ impl Processor {
         0
     }
 
+    /// Refusal 4 for a pointer of the command, then 11 for a byte of it: "11, a command any of whose bytes
+    /// lies in a block not fitted, after 4". Of a move both look at both pointers.
+    pub(crate) fn pointer_refusal<R: Rules>(&self, rules: &R, command: Command) -> Option<u8> {
+        let pointers = command.pointers().iter();
+        let pointers: Vec<Pointer> = pointers
+            .map(|which| rules.pointer(self.board.part, &self.registers, *which))
+            .collect();
+        let is_fitted = |z: usize| fitted(z, self.board.blocks);
+        if pointers.iter().any(|pointer| !pointer.legal()) {
+            Some(4)
+        } else if !pointers
+            .iter()
+            .all(|pointer| command.blocks(pointer.z).into_iter().all(is_fitted))
+        {
+            Some(11)
+        } else {
+            None
+        }
+    }
+
     fn run<R: Rules>(&mut self, rules: &R, memory: &mut [u8], command: Command) {
         match command {
-            Command::Nop => {}
+            // "One without runs until a NOP is executed", and one with a stop ends by it too.
+            Command::Nop => self.busy = false,
             Command::Ind { register, read } => {
                 if read {
                     self.registers[1] = *self.indirect(register);
@@ -65,6 +81,8 @@ impl Processor {
                     self.increment(pointer);
                 }
             }
+            // "Nothing has moved yet."
+            Command::Move(_) => self.busy = true,
         }
     }
 
@@ -135,16 +153,29 @@ impl Processor {
         }
     }
 
+    /// One store of an access.
+    fn store<R: Rules>(&mut self, rules: &R, memory: &mut [u8], place: usize, value: u8) {
+        self.store_marking(memory, place, value, |page, row| {
+            rules.store_marks(page, row, place)
+        });
+    }
+
     /// One store: it marks before it changes the byte. "While a draw would get 7 or 8, a store or
     /// phase change marks nothing". A row that is marked already need not be asked again.
-    fn store<R: Rules>(&mut self, rules: &R, memory: &mut [u8], place: usize, value: u8) {
+    pub(crate) fn store_marking(
+        &mut self,
+        memory: &mut [u8],
+        place: usize,
+        value: u8,
+        marks: impl Fn(&Page, usize) -> bool,
+    ) {
         if memory[place] == value {
             return;
         }
         if self.page_refusal().is_none() {
             let page = self.page(memory);
             for row in 0..ROWS {
-                if !self.marks[row] && rules.store_marks(&page, row, place) {
+                if !self.marks[row] && marks(&page, row) {
                     self.marks[row] = true;
                 }
             }

@@ -22,6 +22,7 @@ pub mod half;
 pub mod marks;
 pub mod mode;
 pub mod mosaic;
+mod moves;
 pub mod operation;
 pub mod packing;
 pub mod page;

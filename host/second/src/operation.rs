@@ -14,6 +14,8 @@ pub enum Operation {
     Read {
         address: u8,
     },
+    /// One character position of a move, if one runs.
+    Step,
     Turn {
         phase: u8,
     },

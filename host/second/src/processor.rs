@@ -1,4 +1,5 @@
-//! The processor's state and what a host may ask of it: accesses, the phase change and the draw.
+//! The processor's state and what a host may ask of it: accesses, the phase change and the draw. The
+//! step of a move has a place of its own.
 
 use std::collections::BTreeSet;
 
@@ -21,6 +22,8 @@ pub struct Processor {
     pub ror: u8,
     pub lx_main: bool,
     pub lx_auxiliary: bool,
+    /// Whether a move runs: the one whose byte is in R0.
+    pub busy: bool,
     pub phase: u8,
     pub marks: [bool; ROWS],
     /// "The size is given at power-up and stays", and "the part is chosen at power-up".
@@ -37,7 +40,7 @@ pub struct Answer {
 
 impl Answer {
     /// A refusal with value 0, or 0 rows.
-    fn refusal(number: u8) -> Answer {
+    pub(crate) fn refusal(number: u8) -> Answer {
         Answer { number, value: 0 }
     }
 }
@@ -74,6 +77,7 @@ impl Processor {
             ror: 0,
             lx_main: false,
             lx_auxiliary: false,
+            busy: false,
             phase: 0,
             marks: [true; ROWS],
             board,
@@ -106,7 +110,9 @@ impl Processor {
         address: u8,
         value: u8,
     ) -> Answer {
-        if let Some(number) = self.access_refusal(memory, address) {
+        // "Writing R0 with a NOP at an upper" address.
+        let is_nop = address == 0x28 && (value == 0x90 || value == 0x91);
+        if let Some(number) = self.access_refusal(rules, memory, address, is_nop) {
             return Answer::refusal(number);
         }
         self.registers[usize::from(address % 8)] = value;
@@ -117,7 +123,9 @@ impl Processor {
     /// A read under given rules. It returns the value from before the command, also with
     /// refusals 3, 4 and 11.
     pub fn read_with<R: Rules>(&mut self, rules: &R, memory: &mut [u8], address: u8) -> Answer {
-        if let Some(number) = self.access_refusal(memory, address) {
+        // "A status read at a lower address".
+        let is_status = address == 0x20;
+        if let Some(number) = self.access_refusal(rules, memory, address, is_status) {
             return Answer::refusal(number);
         }
         let value = match address % 8 {
@@ -184,9 +192,12 @@ impl Processor {
         }
     }
 
-    /// R0 read: "bit 7 busy, 6 set if either LX is set, 5 LXm, 4 LXa, others 0". Busy reads 0.
+    /// R0 read: "bit 7 busy, 6 set if either LX is set, 5 LXm, 4 LXa, others 0".
     pub fn status(&self) -> u8 {
         let mut status = 0;
+        if self.busy {
+            status += 0x80;
+        }
         if self.lx_main || self.lx_auxiliary {
             status += 0x40;
         }
@@ -282,12 +293,21 @@ impl Processor {
         }
     }
 
-    /// The checks before the register access: 1, which "compares with the size chosen", then 2.
-    fn access_refusal(&self, memory: &[u8], address: u8) -> Option<u8> {
+    /// The checks before the register access: 1, which "compares with the size chosen", then 2, then "10,
+    /// any access while busy except" two, which are not refused.
+    fn access_refusal<R: Rules>(
+        &self,
+        rules: &R,
+        memory: &[u8],
+        address: u8,
+        is_exception: bool,
+    ) -> Option<u8> {
         if memory.len() != self.memory_length() {
             Some(1)
         } else if address / 16 != 2 {
             Some(2)
+        } else if self.busy && !is_exception && rules.refuses_while_busy() {
+            Some(10)
         } else {
             None
         }

@@ -1,8 +1,10 @@
 //! The rules in which a slip can be planted.
 
+use crate::address::code_block;
 use crate::command::Indirect;
 use crate::marks;
 use crate::mode::Mode;
+use crate::moves;
 use crate::packing::with_nibble;
 use crate::page::Page;
 use crate::part::Part;
@@ -25,6 +27,43 @@ pub trait Rules {
     /// Whether a store to a place marks a row of the page just before it.
     fn store_marks(&self, page: &Page, row: usize, place: usize) -> bool {
         marks::by_store(page, row, place)
+    }
+
+    /// Whether a store of a step marks a row of the page just before it: "Each stored byte marks rows by the
+    /// usual list".
+    fn step_marks(&self, page: &Page, row: usize, place: usize) -> bool {
+        self.store_marks(page, row, place)
+    }
+
+    /// The block of byte 0, 1 or 2 of a move from or to block `first`.
+    fn moved_block(&self, first: usize, byte: usize) -> usize {
+        code_block(first, byte)
+    }
+
+    /// The byte that a move takes up, by the one that was there before the step and the one that is there
+    /// now: "a byte stored is seen by a later read of the same step".
+    fn moved_byte(&self, _before: u8, now: u8) -> u8 {
+        now
+    }
+
+    /// Whether Y of a pointer goes on where its X passes 39 in a move without a stop.
+    fn goes_down(&self, which: Which) -> bool {
+        which == Which::Main
+    }
+
+    /// The Y to which a move goes on.
+    fn next_y(&self, y: u8) -> u8 {
+        moves::next_y(y)
+    }
+
+    /// Whether a move with a stop ends with the step that had these Xs.
+    fn ends(&self, source: usize, destination: usize) -> bool {
+        source == 39 || destination == 39
+    }
+
+    /// Whether an access gets 10 while busy, if it is none of the two that do not.
+    fn refuses_while_busy(&self) -> bool {
+        true
     }
 
     /// Whether a changed value of a register marks every row, with the modes before and after it.

@@ -3,6 +3,7 @@
 mod choices;
 mod eighty;
 mod forty;
+mod moves;
 mod registers;
 mod writes;
 
@@ -16,6 +17,7 @@ use crate::random::Random;
 use crate::BLOCK;
 
 pub use choices::{bichrome_b, short_palette};
+pub use moves::MOVES;
 
 /// A source of operations: it makes small plans from the present state and hands them out one
 /// operation at a time.
@@ -29,9 +31,10 @@ pub struct Sequence {
 }
 
 /// The listed commands, and three that are refused.
-const COMMANDS: [u8; 31] = [
+const COMMANDS: [u8; 43] = [
     0x00, 0x01, 0x08, 0x09, 0x30, 0x31, 0x34, 0x35, 0x38, 0x39, 0x3C, 0x3D, 0x50, 0x51, 0x58, 0x59,
-    0x81, 0x82, 0x83, 0x84, 0x87, 0x89, 0x8A, 0x8B, 0x8C, 0x8F, 0x90, 0x91, 0x05, 0x52, 0x80,
+    0x81, 0x82, 0x83, 0x84, 0x87, 0x89, 0x8A, 0x8B, 0x8C, 0x8F, 0x90, 0x91, 0x05, 0x52, 0x80, 0xD5,
+    0xD6, 0xD9, 0xDA, 0xE5, 0xE6, 0xE9, 0xEA, 0xF5, 0xF6, 0xF9, 0xFA,
 ];
 
 impl Sequence {
@@ -77,15 +80,20 @@ impl Sequence {
     /// The next operation for this state and memory.
     pub fn operation(&mut self, processor: &Processor, memory: &[u8]) -> Operation {
         loop {
-            if let Some(operation) = self.waiting.pop_front() {
-                return operation;
+            match self.waiting.pop_front() {
+                // Most steps of a move that was refused, or has ended, are left out.
+                Some(Operation::Step) if !processor.busy && !self.random.one_in(4) => {}
+                Some(operation) => return operation,
+                None => self.plan(processor, memory),
             }
-            self.plan(processor, memory);
         }
     }
 
     /// One plan, and a draw after one in three, so that few changes stand between two draws.
     fn plan(&mut self, processor: &Processor, memory: &[u8]) {
+        if processor.busy {
+            return self.plan_while_busy(processor);
+        }
         if processor.page_refusal().is_some() && self.random.one_in(4) {
             return self.mend(processor);
         }
@@ -97,6 +105,16 @@ impl Sequence {
         };
         if times.is_some_and(|times| self.random.one_in(times)) {
             return self.one_byte(processor);
+        }
+        // The TS9347 has no move: each gets 3, and each step then finds nothing that runs.
+        // Of 2 blocks most are refused by 11.
+        let times = match processor.board {
+            Board::TWO => 12,
+            Board::TS9347 => 200,
+            _ => 20,
+        };
+        if self.random.one_in(times) {
+            return self.one_move(processor, memory);
         }
         match self.random.below(100) {
             0..=75 => match processor.page(memory).mode {

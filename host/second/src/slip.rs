@@ -1,5 +1,6 @@
 //! Wrong rules, planted so that the tests can show that they would see one.
 
+mod moves;
 mod ts9347;
 
 use crate::address::{address, code_block, fitted, place};
@@ -71,11 +72,27 @@ pub enum Slip {
     Dor7Forgotten,
     /// Its ROM is read with G0 first, as the EF9345's is.
     RomInOldOrder,
+    /// Of a move: the stores of a step mark nothing.
+    StepUnmarked,
+    /// A move takes its second and third block from the next district.
+    MoveLeavesDistrict,
+    /// The bytes of a position are all read before the first of them is stored.
+    PositionReadFirst,
+    /// The auxiliary pointer's Y goes on too.
+    AuxiliaryGoesDown,
+    /// Y goes from 0 to 8.
+    ServiceRowLeft,
+    /// Y goes from 31 to 0.
+    ServiceRowEntered,
+    /// A move ends at the source's last column and not at the destination's.
+    StopAtSourceAlone,
+    /// Any access is accepted while busy.
+    BusyForgotten,
 }
 
 impl Slip {
     /// All that are planted.
-    pub const PLANTED: [Slip; 24] = [
+    pub const PLANTED: [Slip; 32] = [
         Slip::UserSliceForgotten,
         Slip::RowAboveForgotten,
         Slip::ChainStopsAfterOneRow,
@@ -100,6 +117,14 @@ impl Slip {
         Slip::AlphanumericGoe,
         Slip::Dor7Forgotten,
         Slip::RomInOldOrder,
+        Slip::StepUnmarked,
+        Slip::MoveLeavesDistrict,
+        Slip::PositionReadFirst,
+        Slip::AuxiliaryGoesDown,
+        Slip::ServiceRowLeft,
+        Slip::ServiceRowEntered,
+        Slip::StopAtSourceAlone,
+        Slip::BusyForgotten,
     ];
 
     /// The list that the slip takes for a row's.
@@ -154,6 +179,37 @@ impl Rules for Slip {
 
     fn store_marks(&self, page: &Page, row: usize, place: usize) -> bool {
         self.places(page, row).contains(&place)
+    }
+
+    fn step_marks(&self, page: &Page, row: usize, place: usize) -> bool {
+        *self != Slip::StepUnmarked && self.store_marks(page, row, place)
+    }
+
+    fn moved_block(&self, first: usize, byte: usize) -> usize {
+        moves::block(*self, first, byte)
+    }
+
+    fn moved_byte(&self, before: u8, now: u8) -> u8 {
+        match self {
+            Slip::PositionReadFirst => before,
+            _ => now,
+        }
+    }
+
+    fn goes_down(&self, which: Which) -> bool {
+        which == Which::Main || *self == Slip::AuxiliaryGoesDown
+    }
+
+    fn next_y(&self, y: u8) -> u8 {
+        moves::next_y(*self, y)
+    }
+
+    fn ends(&self, source: usize, destination: usize) -> bool {
+        source == 39 || (destination == 39 && *self != Slip::StopAtSourceAlone)
+    }
+
+    fn refuses_while_busy(&self) -> bool {
+        *self != Slip::BusyForgotten
     }
 
     fn register_marks(

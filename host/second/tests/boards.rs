@@ -97,15 +97,25 @@ const KRF: [u8; 4] = [0x00, 0x01, 0x08, 0x09];
 const KRL: [u8; 4] = [0x50, 0x51, 0x58, 0x59];
 const OCT_MAIN: [u8; 4] = [0x30, 0x31, 0x38, 0x39];
 const OCT_AUXILIARY: [u8; 4] = [0x34, 0x35, 0x3C, 0x3D];
+/// MVB, MVD and MVT: one byte, two and three.
+const MOVES: [[u8; 4]; 3] = [
+    [0xD5, 0xD6, 0xD9, 0xDA],
+    [0xE5, 0xE6, 0xE9, 0xEA],
+    [0xF5, 0xF6, 0xF9, 0xFA],
+];
 const WITHOUT_BYTES: [u8; 12] = [
     0x81, 0x82, 0x83, 0x84, 0x87, 0x89, 0x8A, 0x8B, 0x8C, 0x8F, 0x90, 0x91,
 ];
 
 /// The blocks whose commands are accepted on a board, written out.
 fn accepted_blocks(command: u8, blocks: usize) -> Vec<usize> {
-    let one_byte = [OCT_MAIN, OCT_AUXILIARY].concat().contains(&command);
+    let one_byte = [OCT_MAIN, OCT_AUXILIARY, MOVES[0]]
+        .concat()
+        .contains(&command);
     match (blocks, one_byte) {
         (2, true) => vec![0, 1],
+        // MVD's two bytes are in blocks 0 and 1, or 1 and 2, or 3 and 0.
+        (2, false) if MOVES[1].contains(&command) => vec![0],
         // Three bytes are in three of the four blocks of a district, and KRL's two in the first two
         // and the second two: the board has two blocks of one district.
         (2, false) => vec![],
@@ -133,7 +143,7 @@ fn pointed(board: Board, z: usize) -> Bench {
 
 #[test]
 fn refusal_11_looks_at_every_byte_of_a_command() {
-    let commands = [KRF, KRL, OCT_MAIN, OCT_AUXILIARY].concat();
+    let commands = [[KRF, KRL, OCT_MAIN, OCT_AUXILIARY].concat(), MOVES.concat()].concat();
     for board in BOARDS {
         for z in 0..16 {
             for command in commands.iter().copied() {
@@ -164,6 +174,29 @@ fn refusal_11_looks_at_every_byte_of_a_command() {
 fn commands_without_bytes_never_get_11() {
     for command in WITHOUT_BYTES {
         assert_eq!(pointed(Board::TWO, 15).write(0x28, command).number, 0);
+    }
+}
+
+/// A move looks at every byte of both pointers, whichever of them is the source.
+#[test]
+fn refusal_11_looks_at_both_pointers_of_a_move() {
+    for board in BOARDS {
+        for (main, auxiliary) in (0..16).flat_map(|main| (0..16).map(move |other| (main, other))) {
+            for command in MOVES.concat() {
+                let blocks = accepted_blocks(command, board.blocks);
+                let both = blocks.contains(&main) && blocks.contains(&auxiliary);
+                let mut bench = Bench::power_up_board(board);
+                let at = |z| Pointer { x: 7, y: 20, z };
+                bench.point(at(main), at(auxiliary));
+                bench.write(0x20, command);
+                let before = bench.clone();
+                let number = bench.read(0x2A).number;
+                let told = format!("{command:02X}, {main} and {auxiliary} of {board:?}");
+                assert_eq!(number, if both { 0 } else { 11 }, "{told}");
+                assert_eq!(bench == before, !both, "{told}");
+                assert_eq!(bench.processor.busy, both, "{told}");
+            }
+        }
     }
 }
 

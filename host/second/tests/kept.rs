@@ -10,7 +10,7 @@ use second::operation::Operation;
 use second::page::Page;
 use second::random::Random;
 use second::rules::PageRules;
-use second::sequence::Sequence;
+use second::sequence::{Sequence, MOVES};
 use second::set::Set;
 use second::{Board, Mode};
 
@@ -51,6 +51,52 @@ struct Met {
     hidden: usize,
     negative: usize,
     numbers: [usize; 13],
+    moves: Moves,
+}
+
+/// What they met of moves.
+#[derive(Debug, Default)]
+struct Moves {
+    /// Steps by the code, from D5 on, of the move that ran.
+    steps: [usize; 12],
+    /// Steps that left a row marked which was not before, and those that changed a byte and did not.
+    marking: usize,
+    unseen: usize,
+    /// Steps while nothing ran.
+    idle: usize,
+    /// Moves that a step has ended, and moves that a NOP has.
+    stopped: usize,
+    aborted: usize,
+    /// Accepted draws while one ran.
+    draws: usize,
+}
+
+impl Moves {
+    fn look(&mut self, before: &Bench, operation: Operation, after: &Bench) {
+        let (old, new) = (&before.processor, &after.processor);
+        let ended = old.busy && !new.busy;
+        match operation {
+            Operation::Step if old.busy => {
+                let code = MOVES.iter().position(|code| *code == old.registers[0]);
+                self.steps[code.expect("a move runs")] += 1;
+                self.stopped += usize::from(ended);
+                let is_marking = old.marks != new.marks;
+                self.marking += usize::from(is_marking);
+                self.unseen += usize::from(before.memory != after.memory && !is_marking);
+            }
+            Operation::Step => self.idle += 1,
+            Operation::Draw => self.draws += usize::from(old.busy && new.marks == [false; 25]),
+            _ => self.aborted += usize::from(ended),
+        }
+    }
+
+    /// Fails where something was met fewer times than `least`.
+    fn assert_varied(&self, least: usize) {
+        let counts = [self.marking, self.unseen, self.idle];
+        let ends = [self.stopped, self.aborted, self.draws];
+        let mut counts = self.steps.iter().chain(&counts).chain(&ends);
+        assert!(counts.all(|count| *count >= least), "{self:?}");
+    }
 }
 
 impl Met {
@@ -179,12 +225,14 @@ fn run(met: &mut Met, seed: u64, operations: usize, board: Board) {
     let mut bench = random_bench(&mut sequence, seed, board);
     for _ in 0..operations {
         let operation = sequence.operation(&bench.processor, &bench.memory);
+        let before = bench.clone();
         if operation == Operation::Draw {
             draw(met, &mut random, &mut bench);
         } else {
             let answer = bench.apply_with(&PageRules, operation);
             met.numbers[usize::from(answer.number)] += 1;
         }
+        met.moves.look(&before, operation, &bench);
         if bench.processor.page_refusal().is_some() {
             assert_eq!(bench.processor.marks, [true; 25]);
         }
@@ -224,6 +272,8 @@ fn kept_equals_fresh() {
     for number in [0, 2, 3, 4, 9] {
         assert!(met.numbers[number] > 0, "number {number} was not met");
     }
+    met.moves.assert_varied(20);
+    assert!(met.numbers[10] > 300, "{:?}", met.numbers);
 }
 
 #[test]
@@ -231,7 +281,7 @@ fn kept_equals_fresh_on_the_smaller_boards() {
     // The first so many pages are those of which a block is fitted.
     for (board, fitted) in [(Board::TWO, 2), (Board::EIGHT, 4)] {
         let mut met = Met::default();
-        for seed in 200..220 {
+        for seed in 200..240 {
             run(&mut met, seed, 1_000, board);
         }
         println!("{board:?}: {met:?}");
@@ -247,6 +297,15 @@ fn kept_equals_fresh_on_the_smaller_boards() {
             assert!(met.numbers[number] > 0, "number {number} was not met");
         }
         assert!(met.numbers[11] > 300, "{:?}", met.numbers);
+        assert!(met.numbers[10] > 100, "{:?}", met.numbers);
+        if board == Board::EIGHT {
+            met.moves.assert_varied(25);
+        } else {
+            // MVT has no block of which all three bytes are fitted.
+            let (fitted, others) = met.moves.steps.split_at(8);
+            assert!(fitted.iter().all(|steps| *steps > 20), "{:?}", met.moves);
+            assert_eq!(others, [0; 4]);
+        }
     }
 }
 
@@ -274,6 +333,9 @@ fn kept_equals_fresh_on_the_ts9347() {
         assert!(halves > drawn.accepted / 4, "{met:?}");
     }
     assert_eq!((met.quadrichrome, met.eighty.accepted), (0, 0));
+    // It has no move: every step is one while nothing runs.
+    assert_eq!((met.moves.steps, met.numbers[10]), ([0; 12], 0));
+    assert!(met.moves.idle > 15, "{:?}", met.moves);
     for number in [0, 2, 3, 4, 9] {
         assert!(met.numbers[number] > 0, "number {number} was not met");
     }

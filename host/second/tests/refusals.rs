@@ -19,6 +19,7 @@ fn state(command: u8) -> Processor {
         ror: 0x6A,
         lx_main: true,
         lx_auxiliary: false,
+        busy: false,
         phase: 1,
         marks,
         board: Board::SIXTEEN,
@@ -44,7 +45,8 @@ fn bench_of(mode: Mode) -> Bench {
 
 const MODES: [Mode; 2] = [Mode::Forty, Mode::Eighty];
 
-/// The bytes that are refused, written out: KRL's four are no longer among them.
+/// The bytes that are refused, written out: KRL's four and the twelve of the moves are no longer among
+/// them.
 fn refused_bytes() -> Vec<u8> {
     let mut bytes: Vec<u8> = Vec::new();
     bytes.extend(0x02..=0x07);
@@ -54,7 +56,13 @@ fn refused_bytes() -> Vec<u8> {
     bytes.extend(0x52..=0x57);
     bytes.extend(0x5A..=0x80);
     bytes.extend([0x85, 0x86, 0x88, 0x8D, 0x8E]);
-    bytes.extend(0x92..=0xFF);
+    bytes.extend(0x92..=0xD4);
+    bytes.extend([0xD7, 0xD8]);
+    bytes.extend(0xDB..=0xE4);
+    bytes.extend([0xE7, 0xE8]);
+    bytes.extend(0xEB..=0xF4);
+    bytes.extend([0xF7, 0xF8]);
+    bytes.extend(0xFB..=0xFF);
     bytes
 }
 
@@ -62,10 +70,13 @@ const KRF: [u8; 4] = [0x00, 0x01, 0x08, 0x09];
 const KRL: [u8; 4] = [0x50, 0x51, 0x58, 0x59];
 const OCT_MAIN: [u8; 4] = [0x30, 0x31, 0x38, 0x39];
 const OCT_AUXILIARY: [u8; 4] = [0x34, 0x35, 0x3C, 0x3D];
+const MOVES: [u8; 12] = [
+    0xD5, 0xD6, 0xD9, 0xDA, 0xE5, 0xE6, 0xE9, 0xEA, 0xF5, 0xF6, 0xF9, 0xFA,
+];
 
 #[test]
 fn every_command_byte_is_classified() {
-    assert_eq!(refused_bytes().len() + 28, 256);
+    assert_eq!(refused_bytes().len() + 40, 256);
     for command in 0..=255 {
         let expected = if refused_bytes().contains(&command) {
             3
@@ -82,10 +93,12 @@ fn every_command_byte_is_classified() {
     }
 }
 
-/// The number that a command gets when the main, the auxiliary, or both pointers are not legal.
+/// The number that a command gets when the main, the auxiliary, or both pointers are not legal. A move
+/// uses both.
 fn expected_with_pointers(command: u8, main_legal: bool, auxiliary_legal: bool) -> u8 {
-    let main = [KRF, KRL, OCT_MAIN].concat().contains(&command);
-    let auxiliary = OCT_AUXILIARY.contains(&command);
+    let is_move = MOVES.contains(&command);
+    let main = is_move || [KRF, KRL, OCT_MAIN].concat().contains(&command);
+    let auxiliary = is_move || OCT_AUXILIARY.contains(&command);
     if refused_bytes().contains(&command) {
         3
     } else if (main && !main_legal) || (auxiliary && !auxiliary_legal) {
@@ -132,10 +145,17 @@ fn the_edges_of_a_legal_pointer() {
 
 #[test]
 fn after_3_or_4_the_register_access_has_happened_and_nothing_else() {
-    // 05 and 52 are not listed; KRF, KRL and OCT with increment have X = 40.
+    // 05, 52 and the codes beside those of the moves are not listed; KRF, KRL and OCT with increment, and
+    // the moves, have X = 40.
     for (command, number) in [
         (0x05, 3),
         (0x52, 3),
+        (0xD4, 3),
+        (0xE7, 3),
+        (0xFB, 3),
+        (0xD5, 4),
+        (0xEA, 4),
+        (0xF9, 4),
         (0x01, 4),
         (0x09, 4),
         (0x51, 4),

@@ -1,6 +1,7 @@
 //! Each planted slip is seen by random sequences, and the right rules never are.
 
 mod expected;
+mod stepped;
 
 use expected::expected_marks;
 use second::address::place;
@@ -13,6 +14,7 @@ use second::rules::PageRules;
 use second::rules::Rules;
 use second::sequence::Sequence;
 use second::{Board, Part, Slip};
+use stepped::expected_step;
 
 const SEEDS: u64 = 40;
 const OPERATIONS: usize = 4_000;
@@ -101,6 +103,29 @@ fn wrongly_placed(step: &Step) -> bool {
     let z = 4 * usize::from(down / 32) + [0, 2, 1, 3][usize::from(across / 64)];
     let at = place(usize::from(across % 64), usize::from(down % 32), z);
     step.after.memory[at] != step.after.processor.registers[1]
+}
+
+/// Another memory, another register or another busy after a step than its bytes and its pointers say.
+fn wrongly_moved(step: &Step) -> bool {
+    if step.operation != Operation::Step {
+        return false;
+    }
+    let mut expected = expected_step(step.before);
+    expected.processor.marks = step.after.processor.marks;
+    *step.after != expected
+}
+
+/// An access that was not refused while a move ran, and is neither a status read at 20 nor a NOP at 28.
+fn wrongly_accepted(step: &Step) -> bool {
+    let is_refused = match step.operation {
+        Operation::Read { address } => (0x21..=0x2F).contains(&address),
+        Operation::Write { address, value } => {
+            let is_nop = address == 0x28 && [0x90, 0x91].contains(&value);
+            (0x20..=0x2F).contains(&address) && !is_nop
+        }
+        _ => false,
+    };
+    step.before.processor.busy && is_refused && step.answer.number != 10
 }
 
 /// The number of operations until something wrong is seen, if it ever is.
@@ -261,6 +286,47 @@ fn a_rom_in_the_order_of_the_other_part_is_caught() {
 }
 
 #[test]
+fn unmarked_stores_of_a_step_are_caught() {
+    is_caught(Slip::StepUnmarked, stale);
+    is_caught(Slip::StepUnmarked, wrongly_marked);
+}
+
+#[test]
+fn a_move_that_leaves_its_district_is_caught() {
+    is_caught(Slip::MoveLeavesDistrict, wrongly_moved);
+}
+
+#[test]
+fn a_position_that_is_read_first_is_caught() {
+    is_caught(Slip::PositionReadFirst, wrongly_moved);
+}
+
+#[test]
+fn an_auxiliary_y_that_goes_on_is_caught() {
+    is_caught(Slip::AuxiliaryGoesDown, wrongly_moved);
+}
+
+#[test]
+fn a_move_that_leaves_the_service_row_is_caught() {
+    is_caught(Slip::ServiceRowLeft, wrongly_moved);
+}
+
+#[test]
+fn a_move_that_enters_the_service_row_is_caught() {
+    is_caught(Slip::ServiceRowEntered, wrongly_moved);
+}
+
+#[test]
+fn a_stop_at_the_source_alone_is_caught() {
+    is_caught(Slip::StopAtSourceAlone, wrongly_moved);
+}
+
+#[test]
+fn an_access_accepted_while_busy_is_caught() {
+    is_caught(Slip::BusyForgotten, wrongly_accepted);
+}
+
+#[test]
 fn the_planted_slips_differ() {
     for (at, slip) in Slip::PLANTED.iter().enumerate() {
         assert_ne!(*slip, Slip::None);
@@ -270,7 +336,13 @@ fn the_planted_slips_differ() {
 
 #[test]
 fn the_right_rules_are_not_caught() {
-    let wrong: Wrong = |step| stale(step) || wrongly_packed(step) || wrongly_placed(step);
+    let wrong: Wrong = |step| {
+        stale(step)
+            || wrongly_packed(step)
+            || wrongly_placed(step)
+            || wrongly_moved(step)
+            || wrongly_accepted(step)
+    };
     for board in Board::ALL {
         for seed in 0..4 {
             assert_eq!(caught(&PageRules, wrong, board, seed), None);

@@ -5,6 +5,7 @@ use std::path::PathBuf;
 
 use binturamis::{Board, Part, Refusal};
 
+use crate::panel::STEPS;
 use crate::terminal::Asked;
 
 pub const HELP: &str = "\
@@ -18,6 +19,8 @@ after the other from power-up; - is standard input. An odd last byte is ignored.
                 80 columns
   --png FILE    writes the picture as a PNG too
   --phase 0|1   the phase of what flashes; else 0
+  --steps N     the steps that a move may make, after the access that starts it and
+                before the next; else 40, within which a move with a stop ends
   --part PART   the display processor, ef9345 or ts9347; else ef9345
   --blocks N    the blocks of its private memory: 2, 8 or 16 of an EF9345, else 16;
                 32 of a TS9347, which has no others
@@ -28,7 +31,9 @@ The picture has 320 by 250 pixels, or 480 by 250 where TGS asks an EF9345 for 80
 columns. It is fitted to the terminal: COLUMNS is its width, or what stty says;
 where neither is known every pixel is shown. It ends with 1 if a file cannot be
 read or written or a ROM is wrong, 2 if the command line is wrong, and 3 if the
-draw is refused. Refused accesses are told and do not stop it.
+draw is refused. Refused accesses are told and do not stop it. One that is refused
+since a move still runs is told with the access that started the move; a move that
+still runs at the end is told too.
 ";
 
 /// Where the accesses come from.
@@ -45,6 +50,8 @@ pub struct Arguments {
     pub rom: Option<PathBuf>,
     pub png: Option<PathBuf>,
     pub phase: u8,
+    /// The steps that a move makes at most.
+    pub steps: usize,
     pub board: Board,
     pub asked: Option<Asked>,
 }
@@ -74,6 +81,7 @@ pub fn parse(words: impl Iterator<Item = OsString>) -> Result<Command, String> {
         rom: parser.rom,
         png: parser.png,
         phase: parser.phase.unwrap_or(0),
+        steps: parser.steps.unwrap_or(STEPS),
         board: board(parser.part.unwrap_or(Part::Ef9345), parser.blocks)?,
         asked: parser.asked,
     }))
@@ -85,6 +93,7 @@ struct Parser {
     rom: Option<PathBuf>,
     png: Option<PathBuf>,
     phase: Option<u8>,
+    steps: Option<usize>,
     part: Option<Part>,
     /// As they were given: which are right depends on the part, and that may be named later.
     blocks: Option<OsString>,
@@ -103,6 +112,10 @@ impl Parser {
             Some("--phase") => {
                 let phase = phase(&operand("--phase", words)?)?;
                 once(&mut self.phase, "--phase", phase)
+            }
+            Some("--steps") => {
+                let steps = steps(&operand("--steps", words)?)?;
+                once(&mut self.steps, "--steps", steps)
             }
             Some("--part") => {
                 let part = part(&operand("--part", words)?)?;
@@ -147,6 +160,14 @@ fn phase(word: &OsStr) -> Result<u8, String> {
             word.to_string_lossy()
         )),
     }
+}
+
+fn steps(word: &OsStr) -> Result<usize, String> {
+    let steps = word.to_str().and_then(|word| word.parse().ok());
+    steps.ok_or_else(|| {
+        let word = word.to_string_lossy();
+        format!("the steps are a number from 0 on, and not {word}")
+    })
 }
 
 fn part(word: &OsStr) -> Result<Part, String> {

@@ -1,6 +1,6 @@
 //! Shows the page that register accesses draw, in the terminal and as a PNG, and holds the
-//! demonstration pages, one of 40 columns for either part and one of 80 for the EF9345: the accesses with
-//! which a plant's controller would program the chip.
+//! demonstration pages, one of 40 columns for either part, one of 80 for the EF9345 and one that this scrolls:
+//! the accesses with which a plant's controller would program the chip.
 
 pub mod access;
 pub mod arguments;
@@ -16,6 +16,7 @@ pub mod quadrichrome;
 pub mod raster;
 pub mod recipes;
 pub mod registers;
+pub mod scroll;
 pub mod shown;
 pub mod terminal;
 pub mod two_colours;

@@ -74,6 +74,11 @@ impl Registers {
         self.left[usize::from(register)] = Some(value);
     }
 
+    /// A command has left in a register what is not known here: so it is written again before it is used.
+    pub fn forget(&mut self, register: u8) {
+        self.left[usize::from(register)] = None;
+    }
+
     fn write(&mut self, address: u8, value: u8) {
         self.accesses.push(Access { address, value });
     }

@@ -16,6 +16,7 @@ const X: u8 = 0x3F;
 /// Commands, as they are written to R0.
 const KRF_WITH_INCREMENT: u8 = 0x01;
 const OCT_AT_AUXILIARY: u8 = 0x34;
+const MVT_FROM_MAIN_WITH_STOP: u8 = 0xF5;
 
 #[derive(Clone, Debug)]
 pub struct Writer {
@@ -86,6 +87,17 @@ impl Writer {
             self.auxiliary(4 * slice + character % 4, character % 128 / 4, block);
             self.registers.execute(1, *byte);
         }
+    }
+
+    /// Copies a row of the page to another by MVT, from the main pointer to the auxiliary one. An EF9345 alone
+    /// has moves. What is written next waits until the move has ended, which it does with the row.
+    pub fn copy_row(&mut self, from: usize, to: usize) {
+        assert_eq!(self.part, Part::Ef9345, "a TS9347 has no moves");
+        self.auxiliary(0, y_of(to), self.page);
+        self.at(from, 0);
+        self.registers.execute(0, MVT_FROM_MAIN_WITH_STOP);
+        // Both pointers are at X 0 again, and R1 has the last byte that was moved.
+        self.registers.forget(1);
     }
 
     fn auxiliary(&mut self, x: u8, y: u8, z: u8) {

@@ -78,7 +78,13 @@ fn the_program_writes_the_accesses() {
 
 #[test]
 fn another_word_is_told_what_there_is() {
-    for words in [&[][..], &["41"], &["40", "80"], &["80", "ts9347"]] {
+    for words in [
+        &[][..],
+        &["41"],
+        &["40", "80"],
+        &["80", "ts9347"],
+        &["list", "scroll"],
+    ] {
         let program = env!("CARGO_BIN_EXE_demonstration");
         let output = Command::new(program).args(words).output();
         let output = output.expect("the program runs");
@@ -87,7 +93,8 @@ fn another_word_is_told_what_there_is() {
         let told = String::from_utf8_lossy(&output.stderr).to_string();
         assert_eq!(
             told,
-            "usage: demonstration 40, demonstration 40 ts9347, or demonstration 80\n"
+            "usage: demonstration 40, demonstration 40 ts9347, demonstration 80, \
+             demonstration list, or demonstration scroll\n"
         );
     }
 }

@@ -228,6 +228,69 @@ fn refused_accesses_are_told_and_do_not_stop_it() {
     assert_eq!(printed(&output).lines().nth(5), Some("▝ ▘▘"));
 }
 
+/// The letter A in the first cell of the service row, white on black, and then MVT: from the main pointer, which is
+/// there, to the auxiliary one at X 38 of the same row, with a stop or without. Then one more access.
+fn letter_moved<const N: usize>(command: u8, last: [u8; N]) -> Vec<u8> {
+    let mut bytes = vec![
+        0x21, 0x08, 0x28, 0x87, 0x20, 0x00, 0x23, 0x70, 0x29, 0x41, 0x24, 0x00, 0x25, 38, 0x28,
+        command,
+    ];
+    bytes.extend(last);
+    bytes
+}
+
+#[test]
+fn a_move_with_a_stop_has_ended_before_the_next_access() {
+    let accesses = with("moved", &letter_moved(0xF5, [0x21, 0x00]));
+    for words in [&[][..], &["--steps", "2"], &["--steps", "1000000"]] {
+        let mut all: Vec<&Path> = words.iter().map(|word| path(word)).collect();
+        all.push(&accesses);
+        let output = run(&all);
+        assert!(output.status.success(), "{}", told(&output));
+        assert!(!told(&output).contains("snapshot:"), "{}", told(&output));
+        // The A at the left, and 38 cells further on, four columns for each, the same.
+        let first = format!("▗▄▖{}▗▄▖", " ".repeat(38 * 4 - 3));
+        let line = printed(&output).lines().next().map(str::to_string);
+        assert_eq!(line, Some(first));
+    }
+}
+
+#[test]
+fn an_access_while_a_move_runs_is_refused_and_told_with_the_move() {
+    let accesses = with("too-few-steps", &letter_moved(0xF5, [0x21, 0x00]));
+    for (steps, made) in [("0", "0 steps"), ("1", "1 step")] {
+        let output = run(&[&accesses, path("--steps"), path(steps)]);
+        assert!(output.status.success(), "{}", told(&output));
+        let first = format!(
+            "snapshot: 1 of 9 accesses refused, the first of them access 9, at byte 16, the value 00 to \
+             the address 21: refusal 10: a move runs, and the access is neither a status read at \
+             address 20 nor a NOP written to address 28; the move that access 8, at byte 14, started \
+             has made {made}\n"
+        );
+        assert!(told(&output).contains(&first), "{}", told(&output));
+        let running = format!(
+            "snapshot: the move that access 8, at byte 14, started has made {made} and still runs\n"
+        );
+        assert!(told(&output).contains(&running), "{}", told(&output));
+    }
+}
+
+/// A NOP is accepted however many steps were made; without one the move is told at the end.
+#[test]
+fn a_move_without_a_stop_makes_its_steps_and_is_ended_by_a_nop() {
+    let ended = with("ended", &letter_moved(0xF6, [0x28, 0x91]));
+    let running = with("running", &letter_moved(0xF6, []));
+    let output = run(&[&ended, path("--steps"), path("1")]);
+    assert!(output.status.success(), "{}", told(&output));
+    assert!(!told(&output).contains("snapshot:"), "{}", told(&output));
+    let output = run(&[&running]);
+    assert!(output.status.success(), "{}", told(&output));
+    let still =
+        "snapshot: the move that access 8, at byte 14, started has made 40 steps and still runs";
+    assert!(told(&output).contains(still), "{}", told(&output));
+    assert!(!told(&output).contains("refused"), "{}", told(&output));
+}
+
 /// The example has its slice in block 3, by OCT, and its cell in blocks 0 to 2, by KRF.
 #[test]
 fn a_smaller_board_refuses_what_is_not_fitted() {
@@ -422,6 +485,19 @@ fn a_wrong_command_line_is_told() {
         (&["a", "--phase", "2"], "the phase is 0 or 1, and not 2"),
         (&["a", "--phase"], "--phase is the last word"),
         (
+            &["a", "--steps", "-1"],
+            "the steps are a number from 0 on, and not -1",
+        ),
+        (
+            &["a", "--steps", "many"],
+            "the steps are a number from 0 on, and not many",
+        ),
+        (&["a", "--steps"], "--steps is the last word"),
+        (
+            &["a", "--steps", "1", "--steps", "2"],
+            "--steps is given twice",
+        ),
+        (
             &["a", "--blocks", "4"],
             "refusal 12: an EF9345 has 2, 8 or 16 blocks, and not 4",
         ),
@@ -478,7 +554,8 @@ fn help_is_printed() {
     let output = run(&[path("--help")]);
     assert!(output.status.success());
     for flag in [
-        "--rom", "--png", "--phase", "--part", "--blocks", "--plain", "--colour", "--help",
+        "--rom", "--png", "--phase", "--steps", "--part", "--blocks", "--plain", "--colour",
+        "--help",
     ] {
         assert!(printed(&output).contains(flag));
     }

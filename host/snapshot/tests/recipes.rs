@@ -37,7 +37,7 @@ fn cell(raster: &Raster, row: usize, position: usize) -> Vec<u8> {
 
 #[test]
 fn every_access_is_accepted_and_every_row_drawn_once() {
-    assert_eq!(width(Board::Sixteen, &page()), Width::Eighty);
+    assert_eq!(width(Board::Sixteen, &page(), 0), Width::Eighty);
     let mut panel = panel();
     let redrawn = panel.draw().expect("a right page");
     assert_eq!((redrawn.count(), redrawn.width()), (25, Width::Eighty));

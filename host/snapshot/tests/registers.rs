@@ -67,6 +67,16 @@ fn a_register_that_has_the_value_is_not_written_again() {
 }
 
 #[test]
+fn a_register_that_is_not_known_is_written_again() {
+    let accesses = written(|registers| {
+        registers.set(1, 0x5A);
+        registers.forget(1);
+        registers.set(1, 0x5A);
+    });
+    assert_eq!(accesses, [(0x21, 0x5A); 2]);
+}
+
+#[test]
 fn what_a_register_holds_is_known() {
     let mut registers = Registers::new();
     assert_eq!(registers.held(7), 0);

@@ -256,6 +256,7 @@ fn every_pixel_is_shown_where_the_terminal_is_not_known() {
         "320 by 250 pixels, every one shown, in 160 columns.",
         "480 by 250 pixels, every one shown, in 240 columns.",
         "320 by 250 pixels, every one shown, in 160 columns.",
+        "320 by 250 pixels, every one shown, in 160 columns.",
     ];
     assert_eq!(notes, wanted);
 }

@@ -98,6 +98,46 @@ fn slices_are_stored_where_the_rules_have_them() {
     );
 }
 
+/// A row is copied by MVT, from the main pointer to the auxiliary one, and the writing goes on where it was.
+#[test]
+fn a_row_is_copied_by_a_move() {
+    let accesses = written(|writer| {
+        writer.copy_row(3, 2);
+        writer.copy_row(4, 3);
+    });
+    let wanted = [
+        (0x26, 0x00),
+        (0x24, 9),
+        (0x25, 0),
+        (0x26, 10),
+        (0x27, 0),
+        (0x28, 0xF5),
+        (0x24, 10),
+        (0x26, 11),
+        (0x28, 0xF5),
+    ];
+    assert_eq!(accesses, wanted);
+    let look = Look::of(Colour::Yellow, Colour::Blue);
+    let panel = panel(|writer| {
+        writer.at(3, 38);
+        writer.cell(Code::bichrome(Set::G0, 0x41, look));
+        writer.slices(8, 0x20, &[0x5A; 10]);
+        writer.copy_row(3, 0);
+        writer.slices(8, 0x21, &[0x5A; 10]);
+    });
+    let memory = panel.memory();
+    let cells = [0, 1024, 2048].map(|block| (memory[block + 38], memory[block + 86]));
+    assert_eq!(cells, [(0x41, 0x41), (0x00, 0x00), (0x34, 0x34)]);
+    assert_eq!(memory[8 * 1024 + 256], 0x5A);
+    assert_eq!(memory[8 * 1024 + 257], 0x5A);
+}
+
+#[test]
+#[should_panic(expected = "a TS9347 has no moves")]
+fn a_ts9347_copies_no_row() {
+    Writer::of_ts9347(Registers::new(), 16).copy_row(3, 2);
+}
+
 /// R6 has the main pointer's Y and the auxiliary pointer's Z3.
 #[test]
 fn the_two_pointers_do_not_disturb_each_other() {

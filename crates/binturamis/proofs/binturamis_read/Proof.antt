@@ -1,7 +1,7 @@
 use Rattle.processor.specs.Access.{readOut}
 use Rattle.binturamis.specs.Calls.{isRefusal}
 use Rattle.binturamis.proofs.Calls.{call-made}
-use Rattle.binturamis.proofs.Accesses.{plain-length, plain-address, plain-read-made}
+use Rattle.binturamis.proofs.Accesses.{plain-length, plain-idle, plain-address, plain-read-made}
 use borrow.Author.Needs.{needs}
 use Rattle.binturamis.proofs.binturamis_read.Statement.{statement}
 use Rattle.binturamis.proofs.binturamis_read.Tie as tie
@@ -26,9 +26,11 @@ returns c = let k = c .before in
     let i = k .before .before in
     let u = i .before in
     let a = u .before .before .before .args in
-    let length = plain-length (a .memory .now) _ (a .address) (i .is-plain .result) (i .is-plain .ensures) (k .before .if1 .taken) in
-    let four = plain-address (a .memory .now) _ (a .address) (i .is-plain .result) (i .is-plain .ensures) (k .before .if1 .taken) in
-    plain-read-made (a .address) (a .memory .now) (a .p .now) (rw (u .unpacked .ensures) at length) four _ _ _
+    let q = u .unpacked .result in
+    let length = plain-length (a .memory .now) (q .blocks) (q .busy) (a .address) (i .is-plain .result) (i .is-plain .ensures) (k .before .if1 .taken) in
+    let four = plain-address (a .memory .now) (q .blocks) (q .busy) (a .address) (i .is-plain .result) (i .is-plain .ensures) (k .before .if1 .taken) in
+    let idle = plain-idle (a .memory .now) (q .blocks) (q .busy) (a .address) (i .is-plain .result) (i .is-plain .ensures) (k .before .if1 .taken) in
+    plain-read-made (a .address) (a .memory .now) (a .p .now) (rw (u .unpacked .ensures) at length) (rw (u .unpacked .ensures) at idle) four _ _ _
     (u .unpacked .ensures) (k .packed .ensures .0) (c .register .ensures)
 
 read-requires : tie.Need-read-requires

@@ -1,4 +1,4 @@
-use Rattle.binturamis.proofs.Accesses.{full-board, still-board, past-write-made, full-address-made, full-late-made}
+use Rattle.binturamis.proofs.Accesses.{full-board, board-idle, still-board, past-write-made, full-address-made, full-late-made}
 use native.Mathlib.Omega.{arith}
 use borrow.Author.Needs.{needs}
 use Rattle.binturamis.proofs.binturamis_write.Statement.{statement}
@@ -47,7 +47,7 @@ returns-3 c = let u = c .before in
     let z = u .before .before in
     let n = z .before .before .before in
     let a = n .before .before .before .args in
-    past-write-made (a .address) (a .value) _ (a .memory .now) (a .p .now) (full-board (a .p .now) (z .if3 .left)) (n .before .if1 .left) _ (n .past-32 .ensures)
+    past-write-made (a .address) (a .value) _ (a .memory .now) (a .p .now) (full-board (a .p .now) (z .if3 .left)) (board-idle (a .p .now) 0 (z .if3 .left) (omega arith)) (n .before .if1 .left) _ (n .past-32 .ensures)
     (omega arith) (omega arith) _ _ (u .unpacked-full .ensures) (c .packed .ensures .0)
 
 element-copy-out-if4 : tie.Need-element-copy-out-if4

@@ -13,7 +13,7 @@ use crate::size::{PROCESSOR_BYTES, STATE_BYTES};
 const DIRECTORY: &str = env!("BINTURAMIS_LIBRARY");
 
 /// The bridge's first line. A bridge that greets with another one is of another version.
-const GREETING: &[u8] = b"binturamis bridge 4\n";
+const GREETING: &[u8] = b"binturamis bridge 5\n";
 
 #[derive(Clone, Copy)]
 pub enum Call {
@@ -21,6 +21,7 @@ pub enum Call {
     PowerUpBoard = b'B' as isize,
     Write = b'W' as isize,
     Read = b'R' as isize,
+    Step = b'M' as isize,
     Turn = b'T' as isize,
     Draw = b'D' as isize,
     State = b'S' as isize,

@@ -39,6 +39,10 @@ pub fn read(processor: &mut Processor, memory: &mut [u8], address: u8) -> u32 {
     access(Call::Read, [address, 0], processor, memory)
 }
 
+pub fn step(processor: &mut Processor, memory: &mut [u8]) -> u32 {
+    access(Call::Step, [0, 0], processor, memory)
+}
+
 pub fn turn(processor: &mut Processor, memory: &[u8], phase: u8) -> u32 {
     let done = with_child(|child| child.ask(Call::Turn, [phase, 0], processor, [memory]));
     *processor = done.processor;
@@ -62,6 +66,7 @@ pub fn state(processor: &Processor) -> [u8; STATE_BYTES] {
     with_child(|child| child.state(processor))
 }
 
+/// A call that may store: what it has changed of the memory is made here too.
 fn access(call: Call, operands: [u8; 2], processor: &mut Processor, memory: &mut [u8]) -> u32 {
     let done = with_child(|child| child.ask(call, operands, processor, [&*memory]));
     *processor = done.processor;

@@ -30,7 +30,7 @@ pub struct Fitted {
     forms: [[[usize; 2]; 4]; FORMS.len()],
     /// By the kind of page, in 40 columns and in 80: accepted draws of some rows, and of all.
     draws: [[[usize; 2]; 2]; PAGES.len()],
-    /// Stores and phase changes that marked a row which was not, by the kind of page.
+    /// Stores, steps and phase changes that marked a row which was not, by the kind of page.
     marking: [usize; PAGES.len()],
     /// Operations that were refused by 1 for a memory that is right for another board.
     other_boards: usize,
@@ -46,7 +46,10 @@ impl Fitted {
                 let is_eighty = usize::from(before.tgs >= 0xC0);
                 self.draws[page][is_eighty][usize::from(report.value == 25)] += 1;
             }
-            Operation::Write { .. } | Operation::Read { .. } | Operation::Turn { .. } => {
+            Operation::Write { .. }
+            | Operation::Read { .. }
+            | Operation::Step
+            | Operation::Turn { .. } => {
                 let mut rows = before.marks.iter().zip(report.marks);
                 let marks = rows.any(|(was, is)| !was && is == 1);
                 // A changed register marks every row.

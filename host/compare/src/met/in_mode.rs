@@ -10,27 +10,39 @@ use crate::trial::Step;
 /// How often each number was answered to each kind of operation.
 type Numbers = [[usize; 15]; KINDS.len()];
 
-const KINDS: [&str; 5] = ["write", "read", "phase change", "draw", "power-up"];
+const KINDS: [&str; 6] = ["write", "read", "phase change", "draw", "power-up", "step"];
 
 /// The numbers that each kind of operation can get.
 type Possible = [&'static [usize]; KINDS.len()];
 
 /// On a smaller board.
 const SMALLER: Possible = [
-    &[0, 1, 2, 3, 4, 11],
-    &[0, 1, 2, 3, 4, 11],
+    &[0, 1, 2, 3, 4, 10, 11],
+    &[0, 1, 2, 3, 4, 10, 11],
     &[0, 1, 9],
     &[0, 1, 5, 6, 7, 8],
     &[0, 12, 14],
+    &[0, 1],
 ];
 
-/// On those of 16 blocks and of the TS9347, where every byte is fitted.
-const FULL: Possible = [
+/// On that of 16 blocks, where every byte is fitted.
+const SIXTEEN: Possible = [
+    &[0, 1, 2, 3, 4, 10],
+    &[0, 1, 2, 3, 4, 10],
+    &[0, 1, 9],
+    &[0, 1, 5, 6, 7, 8],
+    &[0, 12, 14],
+    &[0, 1],
+];
+
+/// On that of the TS9347, which has no move and so is never busy.
+const TS9347: Possible = [
     &[0, 1, 2, 3, 4],
     &[0, 1, 2, 3, 4],
     &[0, 1, 9],
     &[0, 1, 5, 6, 7, 8],
     &[0, 12, 14],
+    &[0, 1],
 ];
 
 /// Where TGS names no mode a draw gets 7 before its picture is looked at.
@@ -43,7 +55,7 @@ pub struct InMode {
     phases: [usize; 2],
     /// Accepted draws by the number of rows.
     rows: [usize; 26],
-    /// Accesses that changed a byte of the memory.
+    /// Accesses and steps that changed a byte of the memory.
     pub stores: usize,
     /// Those of them that left no row marked which was not before.
     pub unseen_stores: usize,
@@ -112,8 +124,9 @@ impl InMode {
 
     /// The same where TGS named no mode.
     pub fn assert_every_number_in_no_mode(&self, board: Board, least: usize) {
-        let [write, read, turn, _, power_up] = of_board(board);
-        self.assert_numbers([write, read, turn, DRAW_IN_NO_MODE, power_up], least);
+        let [write, read, turn, _, power_up, step] = of_board(board);
+        let draw = DRAW_IN_NO_MODE;
+        self.assert_numbers([write, read, turn, draw, power_up, step], least);
     }
 
     fn assert_numbers(&self, possible: Possible, least: usize) {
@@ -131,10 +144,10 @@ impl InMode {
 }
 
 fn of_board(board: Board) -> Possible {
-    if board.is_full() {
-        FULL
-    } else {
-        SMALLER
+    match board {
+        Board::SIXTEEN => SIXTEEN,
+        Board::TS9347 => TS9347,
+        _ => SMALLER,
     }
 }
 
@@ -153,6 +166,7 @@ fn kind_of(operation: Operation) -> usize {
         Operation::Turn { .. } => 2,
         Operation::Draw => 3,
         Operation::PowerUp { .. } => 4,
+        Operation::Step => 5,
     }
 }
 

@@ -8,6 +8,7 @@ mod eighty_columns;
 mod forty_columns;
 mod fresh;
 mod krl;
+mod moves;
 mod operations;
 mod palettes;
 mod partial;

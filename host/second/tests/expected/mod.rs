@@ -13,11 +13,15 @@ pub fn expected_marks(before: &Bench, operation: Operation, after: &Bench) -> [b
         Operation::Draw => [false; 25],
         Operation::PowerUp { .. } => [true; 25],
         Operation::Turn { .. } => marks_of_turn(before, after),
-        Operation::Write { .. } | Operation::Read { .. } => marks_of_access(before, after),
+        // The bytes of a step are stored one after the other, each with the lists just before it; but a list
+        // that an earlier one of them has changed held that byte, so that its row was marked by then.
+        Operation::Write { .. } | Operation::Read { .. } | Operation::Step => {
+            marks_of_stores(before, after)
+        }
     }
 }
 
-fn marks_of_access(before: &Bench, after: &Bench) -> [bool; 25] {
+fn marks_of_stores(before: &Bench, after: &Bench) -> [bool; 25] {
     let (old, new) = (&before.processor, &after.processor);
     let shown =
         |processor: &Processor| [processor.ror, processor.dor, processor.pat, processor.tgs];

@@ -9,7 +9,7 @@ use std::process::ExitCode;
 use binturamis::{Board, Panel, Part, Width};
 use snapshot::access::Access;
 use snapshot::arguments::{parse, Arguments, Command, Source, HELP};
-use snapshot::panel::{play, width};
+use snapshot::panel::{play_in_steps, width, Played};
 use snapshot::raster::Raster;
 use snapshot::{access, png, shown, terminal};
 
@@ -58,18 +58,15 @@ fn drawn(arguments: &Arguments) -> Result<Raster, Failure> {
     let accesses = access::of_bytes(&bytes);
     let rom = match &arguments.rom {
         Some(file) => read_rom(arguments.board, file)?,
-        None => demonstration_rom(arguments.board, &accesses)?,
+        None => demonstration_rom(arguments, &accesses)?,
     };
     let panel = Panel::with_board(arguments.board, &rom);
     let mut panel = panel.map_err(|refusal| of_file(refusal.to_string()))?;
-    let played = play(&mut panel, &accesses);
+    let played = play_in_steps(&mut panel, &accesses, arguments.steps);
     if bytes.len() % 2 == 1 {
         eprintln!("snapshot: the last byte has no partner and is ignored");
     }
-    if let Some(first) = played.first {
-        let (refused, accesses) = (played.refused, played.accesses);
-        eprintln!("snapshot: {refused} of {accesses} accesses refused, the first of them {first}");
-    }
+    tell(&played);
     let turned = panel.turn(arguments.phase);
     turned
         .and_then(|()| panel.draw())
@@ -80,9 +77,21 @@ fn drawn(arguments: &Arguments) -> Result<Raster, Failure> {
     Ok(Raster::of_panel(&panel))
 }
 
+/// What was refused, and what has not ended.
+fn tell(played: &Played) {
+    if let Some(first) = played.first {
+        let (refused, accesses) = (played.refused, played.accesses);
+        eprintln!("snapshot: {refused} of {accesses} accesses refused, the first of them {first}");
+    }
+    if let Some(running) = played.running {
+        eprintln!("snapshot: {running} and still runs");
+    }
+}
+
 /// The demonstration ROM for the part and the width of the page.
-fn demonstration_rom(board: Board, accesses: &[Access]) -> Result<Vec<u8>, Failure> {
-    let built = match (board.part(), width(board, accesses)) {
+fn demonstration_rom(arguments: &Arguments, accesses: &[Access]) -> Result<Vec<u8>, Failure> {
+    let board = arguments.board;
+    let built = match (board.part(), width(board, accesses, arguments.steps)) {
         (Part::Ts9347, _) => rom::ts9347::demonstration().map(|(rom, _)| rom.to_vec()),
         (Part::Ef9345, Width::Forty) => rom::demonstration().map(|(rom, _)| rom.to_vec()),
         (Part::Ef9345, Width::Eighty) => rom::narrow().map(|(rom, _)| rom.to_vec()),

@@ -8,8 +8,8 @@ mod drum;
 mod frame;
 mod keys;
 mod letters;
-mod screen;
-mod title;
+pub(crate) mod screen;
+pub(crate) mod title;
 
 use crate::access::Access;
 use crate::registers::{Indirect, Registers};
@@ -45,7 +45,7 @@ fn written(writer: Writer) -> Vec<Access> {
 }
 
 /// The registers that say what kind of page it is and where it is kept, DOR with what it has for the part.
-fn registers(dor: u8) -> Registers {
+pub(crate) fn registers(dor: u8) -> Registers {
     let mut registers = Registers::new();
     registers.nop();
     // 40 columns, the code of three bytes, the service row at Y 0.

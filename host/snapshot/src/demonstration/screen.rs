@@ -34,6 +34,11 @@ impl Screen {
         self.writer.accesses()
     }
 
+    /// Copies a whole row to another, as it stands.
+    pub fn copy_row(&mut self, from: usize, to: usize) {
+        self.writer.copy_row(from, to);
+    }
+
     /// A row of spaces.
     pub fn band(&mut self, row: usize, look: Look) {
         self.text(row, 0, look, &" ".repeat(COLUMNS / look.columns()));

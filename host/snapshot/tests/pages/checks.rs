@@ -4,6 +4,7 @@ use std::process::Command;
 
 use binturamis::{Board, Panel};
 use snapshot::access::{to_bytes, Access};
+use snapshot::panel::STEPS;
 
 /// The second program accepts every access, and has the memory and the picture of the panel that
 /// the page was played to.
@@ -14,6 +15,7 @@ pub fn the_second_program_draws_the_same(mut panel: Panel, page: &[Access]) {
     for access in page {
         let answer = second.write(&mut memory, access.address, access.value);
         assert_eq!(answer.number, 0, "{access:?}");
+        finish(&mut second, &mut memory);
     }
     assert!(memory == panel.memory(), "the memories differ");
     assert!(
@@ -28,6 +30,13 @@ fn second_program(board: Board) -> second::Processor {
     second
 }
 
+/// Lets a move that an access has started end with its row.
+fn finish(second: &mut second::Processor, memory: &mut [u8]) {
+    for _ in 0..STEPS {
+        second.step(memory);
+    }
+}
+
 /// The page leaves nothing to what memory held before: it draws the same from bytes of any kind.
 pub fn the_page_does_not_depend_on_what_memory_held(board: Board, rom: &[u8], page: &[Access]) {
     let picture = |fill: u8| {
@@ -35,6 +44,7 @@ pub fn the_page_does_not_depend_on_what_memory_held(board: Board, rom: &[u8], pa
         let mut memory = vec![fill; board.memory_bytes()];
         for access in page {
             second.write(&mut memory, access.address, access.value);
+            finish(&mut second, &mut memory);
         }
         second.fresh(&memory, rom)
     };

@@ -4,10 +4,10 @@ use binturamis::{Board, Panel};
 use snapshot::access::Access;
 use snapshot::panel::play;
 use snapshot::raster::Raster;
-use snapshot::{demonstration, recipes};
+use snapshot::{demonstration, recipes, scroll};
 
-/// The page of 40 columns, the one of 80, and that of 40 as a TS9347 has it.
-pub fn rasters() -> [Raster; 3] {
+/// The page of 40 columns, the one of 80, that of 40 as a TS9347 has it, and the list that was scrolled.
+pub fn rasters() -> [Raster; 4] {
     let (wide, _) = rom::demonstration().expect("the texts are right");
     let (narrow, _) = rom::narrow().expect("the texts are right");
     let (of_ts9347, _) = rom::ts9347::demonstration().expect("the texts are right");
@@ -15,6 +15,7 @@ pub fn rasters() -> [Raster; 3] {
         raster(Board::Sixteen, &wide, &demonstration::page()),
         raster(Board::Sixteen, &narrow, &recipes::page()),
         raster(Board::ThirtyTwo, &of_ts9347, &demonstration::ts9347()),
+        raster(Board::Sixteen, &wide, &scroll::scrolled()),
     ]
 }
 

@@ -4,7 +4,7 @@ use Rattle.binturamis.proofs.way.unpacked_full.Tie as tie
 use Rattle.packing.proofs.layout.unpacked_as.Reads as unpacked-as-reads
 
 unpacked-as-requires : tie.Need-unpacked-as-requires
-unpacked-as-requires c κs = (rw (c .pre), rw (c .pre))
+unpacked-as-requires c κs = (rw (c .pre), rw (c .pre), rw (c .pre))
 
 returns : tie.Need-returns
 returns c = search needs

@@ -3,7 +3,7 @@ use Rattle.binturamis.proofs.way.unpacked_ts9347.Statement.{statement}
 use Rattle.binturamis.proofs.way.unpacked_ts9347.Tie as tie
 
 unpacked-as-requires : tie.Need-unpacked-as-requires
-unpacked-as-requires c κs = (rw (c .pre), rw (c .pre))
+unpacked-as-requires c κs = (rw (c .pre), rw (c .pre), rw (c .pre))
 
 returns : tie.Need-returns
 returns c = search needs

@@ -1,5 +1,5 @@
 use native.Mathlib.Omega.{arith}
-use Rattle.binturamis.proofs.Accesses.{ts9347-board, still-board, past-write-made}
+use Rattle.binturamis.proofs.Accesses.{ts9347-board, board-idle, still-board, past-write-made}
 use borrow.Author.Needs.{needs}
 use Rattle.binturamis.proofs.way.write_elsewhere.Statement.{statement}
 use Rattle.binturamis.proofs.way.write_elsewhere.Tie as tie
@@ -29,7 +29,7 @@ returns c = let u = c .before in
     let z = u .before .before in
     let n = z .before .before .before in
     let a = n .before .before .before .args in
-    past-write-made (a .address) (a .value) _ (a .memory .now) (a .p .now) (ts9347-board (a .p .now) (z .if3 .taken)) (n .before .if1 .taken) _ (n .past-32 .ensures)
+    past-write-made (a .address) (a .value) _ (a .memory .now) (a .p .now) (ts9347-board (a .p .now) (z .if3 .taken)) (board-idle (a .p .now) 4 (z .if3 .taken) (omega arith)) (n .before .if1 .taken) _ (n .past-32 .ensures)
     (omega arith) (omega arith) _ _ (u .unpacked-ts9347 .ensures) (c .packed .ensures .0)
 
 write-on-board-requires : tie.Need-write-on-board-requires

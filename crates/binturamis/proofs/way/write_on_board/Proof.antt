@@ -1,7 +1,7 @@
 use Prim.Native.Nat.{_-_, _%_}
 use mathlib.Core.Path.{_≡_}
 use native.Mathlib.Omega.{arith}
-use Rattle.binturamis.proofs.Accesses.{plain-write-made, early-made, late-length, late-made}
+use Rattle.binturamis.proofs.Accesses.{plain-write-made, early-made, late-length, late-idle, late-made}
 use borrow.Author.Needs.{needs}
 use Rattle.binturamis.proofs.way.write_on_board.Statement.{statement}
 use Rattle.binturamis.proofs.way.write_on_board.Tie as tie
@@ -38,8 +38,9 @@ returns-2 c = let n = c .before in
     let u = e .before in
     let a = u .before .before .before .args in
     let length = late-length (a .address) (a .value) (a .memory .now) (a .p .now) _ (rw (u .unpacked .ensures) at (e .early .ensures)) (t .if1 .left) in
+    let idle = late-idle (a .address) (a .value) (a .memory .now) (a .p .now) _ (rw (u .unpacked .ensures) at (e .early .ensures)) (t .if1 .left) (f .if2 .taken) in
     let register : a .address - 32 ≡ a .address % 8 = omega (arith, f .if2 .taken) in
-    plain-write-made (a .address) (a .memory .now) (a .p .now) length (f .if2 .taken) (a .value) _ _ (rw register at (n .unpacked2 .ensures)) (c .packed .ensures .0)
+    plain-write-made (a .address) (a .memory .now) (a .p .now) length idle (f .if2 .taken) (a .value) _ _ (rw register at (n .unpacked2 .ensures)) (c .packed .ensures .0)
 
 write-requires : tie.Need-write-requires
 write-requires c κs = search needs

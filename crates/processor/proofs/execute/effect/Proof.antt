@@ -1,11 +1,14 @@
-use native.Mathlib.Nat.{mod-eq-of-lt}
 use Rattle.address.proofs.Fits.{byte-legal, code-legal, narrow-legal}
+use native.Mathlib.Nat.{mod-eq-of-lt}
 use borrow.Author.Needs.{needs}
 use Rattle.processor.proofs.execute.effect.Statement.{statement}
 use Rattle.processor.proofs.execute.effect.Tie as tie
 
 enum-told : tie.Need-enum-told
 enum-told c = search needs
+
+with-busy-requires : tie.Need-with-busy-requires
+with-busy-requires c κs = search needs
 
 enum-known-command : tie.Need-enum-known-command
 enum-known-command c = search needs
@@ -46,8 +49,17 @@ krl-requires c κs =
 enum-told-2 : tie.Need-enum-told-2
 enum-told-2 c = search needs
 
+cleared-requires : tie.Need-cleared-requires
+cleared-requires c κs = search needs
+
+with-busy-requires-2 : tie.Need-with-busy-requires-2
+with-busy-requires-2 c κs = search needs
+
+enum-told-3 : tie.Need-enum-told-3
+enum-told-3 c = search needs
+
 returns : tie.Need-returns
-returns c = rw (c .enum-told .given .1)
+returns c = rw (c .before .enum-told .given .1, c .with-busy .ensures)
 
 returns-2 : tie.Need-returns-2
 returns-2 c = let g = c .before .before in
@@ -72,13 +84,17 @@ returns-5 : tie.Need-returns-5
 returns-5 c = let b = c .before .before in rw (b .before .before .before .command4 .given .1) (b .krl .ensures)
 
 returns-6 : tie.Need-returns-6
-returns-6 c = rw (c .enum-told2 .given .1)
+returns-6 c = rw (c .before .before .enum-told2 .given .1, c .with-busy2 .ensures, c .before .cleared .ensures)
+
+returns-7 : tie.Need-returns-7
+returns-7 c = rw (c .enum-told3 .given .1)
 
 pub effect-spec : {M : Type 1} → statement M
 effect-spec =
     tie.close
     (tie.spec
     enum-told
+    with-busy-requires
     enum-known-command
     indirect-requires
     enum-known-command-2
@@ -88,6 +104,9 @@ effect-spec =
     enum-known-command-4
     krl-requires
     enum-told-2
+    cleared-requires
+    with-busy-requires-2
+    enum-told-3
     returns
     returns-2
     same-length
@@ -96,4 +115,5 @@ effect-spec =
     returns-4
     same-length-3
     returns-5
-    returns-6)
+    returns-6
+    returns-7)

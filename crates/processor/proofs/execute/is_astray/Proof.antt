@@ -1,5 +1,6 @@
+use Rattle.processor.proofs.Carrying.{either-astray}
+use mathlib.Core.Path.{sym, refl}
 use Rattle.address.proofs.Fits.{byte-illegal, code-illegal, narrow-illegal}
-use mathlib.Core.Path.{refl, sym}
 use borrow.Author.Needs.{needs}
 use Rattle.processor.proofs.execute.is_astray.Statement.{statement}
 use Rattle.processor.proofs.execute.is_astray.Tie as tie
@@ -40,11 +41,26 @@ is-legal-requires-3 c κs = search needs
 enum-told-5 : tie.Need-enum-told-5
 enum-told-5 c = search needs
 
+pointer-requires-4 : tie.Need-pointer-requires-4
+pointer-requires-4 c κs = search needs
+
+is-legal-requires-4 : tie.Need-is-legal-requires-4
+is-legal-requires-4 c κs = search needs
+
+pointer-requires-5 : tie.Need-pointer-requires-5
+pointer-requires-5 c κs = search needs
+
+is-legal-requires-5 : tie.Need-is-legal-requires-5
+is-legal-requires-5 c κs = search needs
+
+enum-told-6 : tie.Need-enum-told-6
+enum-told-6 c = search needs
+
 returns : tie.Need-returns
-returns c = rw (c .enum-told .given .1) refl
+returns c = search needs
 
 returns-2 : tie.Need-returns-2
-returns-2 c = rw (c .enum-told2 .given .1) refl
+returns-2 c = search needs
 
 returns-3 : tie.Need-returns-3
 returns-3 c = rw (c .before .before .enum-told3 .given .1, c .is-legal .ensures, c .before .pointer .ensures) (sym (code-illegal _ _))
@@ -56,7 +72,15 @@ returns-5 : tie.Need-returns-5
 returns-5 c = rw (c .before .before .enum-told4 .given .1, c .is-legal3 .ensures, c .before .pointer3 .ensures) (sym (narrow-illegal _ _))
 
 returns-6 : tie.Need-returns-6
-returns-6 c = rw (c .enum-told5 .given .1) refl
+returns-6 c =
+    let m = c .before .before .before .before .enum-told5 .given in
+    let s = c .before .before .before .before .before .before in
+    let bytes = (rw (m .1) at (s .pre)) .0 in
+    rw (m .1, c .is-legal5 .ensures, c .before .pointer5 .ensures, c .before .before .is-legal4 .ensures, c .before .before .before .pointer4 .ensures)
+    (sym (either-astray _ (m .0 .1 .0) (m .0 .1 .1 .0) (s .args .p) bytes))
+
+returns-7 : tie.Need-returns-7
+returns-7 c = search needs
 
 pub is-astray-spec : {M : Type 1} → statement M
 is-astray-spec =
@@ -74,9 +98,15 @@ is-astray-spec =
     pointer-requires-3
     is-legal-requires-3
     enum-told-5
+    pointer-requires-4
+    is-legal-requires-4
+    pointer-requires-5
+    is-legal-requires-5
+    enum-told-6
     returns
     returns-2
     returns-3
     returns-4
     returns-5
-    returns-6)
+    returns-6
+    returns-7)

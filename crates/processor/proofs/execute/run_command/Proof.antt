@@ -1,7 +1,7 @@
-use mathlib.Core.Path.{refl, sym, ap, _∙_}
-use Rattle.command.specs.declared.answer.Answer.the-variants.{Accepted}
-use Rattle.processor.specs.States.{Chip}
 use Rattle.processor.specs.Access.{outcome, ran}
+use Rattle.processor.specs.States.{Chip}
+use Rattle.command.specs.declared.answer.Answer.the-variants.{Accepted}
+use mathlib.Core.Path.{refl, sym, ap, _∙_}
 use borrow.Author.Needs.{needs}
 use Rattle.processor.proofs.execute.run_command.Statement.{statement}
 use Rattle.processor.proofs.execute.run_command.Tie as tie
@@ -21,7 +21,7 @@ unfolding ran
 returns-2 c = rw (sym (c .before .before .before .is-unlisted .ensures) ∙ c .before .before .if1 .left, sym (c .before .is-astray .ensures) ∙ c .if2 .taken) refl
 
 is-unfitted-requires : tie.Need-is-unfitted-requires
-is-unfitted-requires c κs = sym (c .before .is-astray .ensures) ∙ c .if2 .left
+is-unfitted-requires c κs = (search needs, sym (c .before .is-astray .ensures) ∙ c .if2 .left)
 
 returns-3 : tie.Need-returns-3
 unfolding ran

@@ -1,0 +1,3 @@
+pub mod Going
+pub mod Spans
+pub mod Pointers
