@@ -258,6 +258,8 @@ static const struct scenario scenarios[] = {
     {"step_mvd", MOVING, PAGES, random_cells, prepare_mvd, repeat_step},
     {"step_aside", MOVING, PAGES, random_cells, prepare_mvt_aside, repeat_step},
     {"step_aside_text", MOVING, PAGES, text, prepare_mvt_aside, repeat_step},
+    {"step_apart", MOVING, PAGES, random_cells, prepare_mvt_apart, repeat_step},
+    {"step_apart_text", MOVING, PAGES, text, prepare_mvt_apart, repeat_step},
     {"step_idle", NARROW, 1, random_cells, prepare_drawn, repeat_idle_step},
     {"scroll", NARROW, 1, random_cells, prepare_scroll, repeat_scroll},
     {"scroll_text", NARROW, 1, text, prepare_scroll, repeat_scroll},

@@ -35,6 +35,11 @@ static uint8_t auxiliary_on_page(const struct panel *panel)
     return (panel->rows[0].r6 & MAIN_Z3) != 0 ? AUXILIARY_Z3 : 0;
 }
 
+uint8_t dor_on_page(const struct panel *panel)
+{
+    return (panel->rows[0].r6 & MAIN_Z3) != 0 ? 0xFFu : 0x00u;
+}
+
 void put_row_aside(struct panel *panel, unsigned row, struct cell cells[BINTURAMIS_COLUMNS])
 {
     put(panel, BINTURAMIS_R6, main_aside(panel, row));

@@ -18,6 +18,9 @@ static inline struct moving *moving_of(struct panel *panel)
     return (struct moving *)panel;
 }
 
+/* A DOR by which every block of slices has the Z3 of the page: none of them is aside. */
+uint8_t dor_on_page(const struct panel *panel);
+
 /* KRF with increment: the cells of a row aside. */
 void put_row_aside(struct panel *panel, unsigned row, struct cell cells[BINTURAMIS_COLUMNS]);
 

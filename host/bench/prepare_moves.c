@@ -6,14 +6,19 @@
 #define SECOND_ASIDE 2u
 #define TO_ASIDE 3u
 
-/* A marked page is prepared, and rows aside are written before it is drawn: some of its cells may have their slices there. */
-static void prepare_aside(struct panel *panel, page_kind *kind, unsigned row)
+/* Rows aside are written before a marked page is drawn: some of its cells may have their slices there. */
+static void put_rows_aside(struct panel *panel, unsigned row)
 {
-    prepare_marked(panel, kind, row);
     put_row_aside(panel, FIRST_ASIDE, panel->pages[0][row]);
     put_row_aside(panel, SECOND_ASIDE, panel->pages[1][row]);
     put_row_aside(panel, TO_ASIDE, panel->pages[1][row]);
     draw(panel, BINTURAMIS_ROWS);
+}
+
+static void prepare_aside(struct panel *panel, page_kind *kind, unsigned row)
+{
+    prepare_marked(panel, kind, row);
+    put_rows_aside(panel, row);
 }
 
 /* The cell becomes the first page's in one repetition, and the second page's again in the next. */
@@ -43,15 +48,29 @@ void prepare_mvd(struct panel *panel, page_kind *kind, unsigned row)
     prepare_to_page(panel, kind, row, BINTURAMIS_MVD);
 }
 
-void prepare_mvt_aside(struct panel *panel, page_kind *kind, unsigned row)
+/* The cells that a move aside goes to become the first page's in one repetition, and the second page's again in the next. */
+static void begin_both_aside(struct panel *panel)
 {
-    prepare_aside(panel, kind, row);
     const binturamis_processor drawn = panel->processor;
     begin_aside(panel, BINTURAMIS_MVT, SECOND_ASIDE, TO_ASIDE, panel->column);
     moving_of(panel)->back = panel->processor;
     panel->processor = drawn;
     begin_aside(panel, BINTURAMIS_MVT, FIRST_ASIDE, TO_ASIDE, panel->column);
     panel->before = panel->processor;
+}
+
+void prepare_mvt_aside(struct panel *panel, page_kind *kind, unsigned row)
+{
+    prepare_aside(panel, kind, row);
+    begin_both_aside(panel);
+}
+
+void prepare_mvt_apart(struct panel *panel, page_kind *kind, unsigned row)
+{
+    prepare_marked(panel, kind, row);
+    put_indirect(panel, BINTURAMIS_DOR, dor_on_page(panel));
+    put_rows_aside(panel, row);
+    begin_both_aside(panel);
 }
 
 void prepare_scroll(struct panel *panel, page_kind *kind, unsigned row)

@@ -18,6 +18,9 @@ preparation prepare_mvd;
 /* The same of MVT from cells aside to others aside. */
 preparation prepare_mvt_aside;
 
+/* The same where no cell of the page can have a slice aside. */
+preparation prepare_mvt_apart;
+
 /* No move runs, and rows 1 to 24 aside are what the page may get by a scroll. */
 preparation prepare_scroll;
 

@@ -1,6 +1,6 @@
 -- Laws of the bytes of a move at a pointer: what 4 and 11 ask of them is what the triples say, and where neither holds each is legal and fitted.
 -- Assumes nothing.
-use Prim.Native.Nat.{ℕ, zero, suc, _<_, _≤_}
+use Prim.Native.Nat.{ℕ, zero, suc, _+_, _*_, _/_, _<_, _≤_}
 use mathlib.Core.Path.{_≡_, refl, sym, ap, ap₂, _∙_}
 use mathlib.Core.Bool.{Bool, true, false, not, _&&_, _||_, or-assoc, or-false}
 use mathlib.Core.List.{List, [], _∷_, _++_}
@@ -80,3 +80,7 @@ span-fitted bytes blocks t h = (
   some-table isIllegal (λ k. addressOf blocks (blockAt t k)) bytes ∙ any-never _ bytes (λ k l. legal-address blocks (blockAt t k) (h k l) .0),
   some-table isNotFitted (λ k. addressOf blocks (blockAt t k)) bytes ∙ any-never _ bytes (λ k l. legal-address blocks (blockAt t k) (h k l) .1),
 )
+
+-- on a board that has the whole district none is
+pub none-bare : (blocks : ℕ) (t : Triple) (bytes : ℕ) → t .z / 4 * 4 + 3 < blocks → false ≡ anyBelow (isBareIn blocks t) bytes
+none-bare blocks t bytes l = sym (any-never (isBareIn blocks t) bytes (λ k h. ap not (lt-ltb (blockAt t k .z) blocks (omega arith))))

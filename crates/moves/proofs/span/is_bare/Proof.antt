@@ -1,5 +1,5 @@
 use Rattle.moves.specs.Spans.{isBareIn}
-use Rattle.moves.proofs.Spans.{bare-as}
+use Rattle.moves.proofs.Spans.{bare-as, none-bare}
 use Rattle.basics.proofs.Below.{any-none, gathered, gathered-end}
 use Rattle.basics.specs.Below.{anyBelow}
 use native.Mathlib.Omega.{arith}
@@ -14,6 +14,15 @@ Inv-loop blocks at bytes bare₀ k₀ bare k = (k ≤ bytes) × (bare ≡ anyBel
 
 abbrev μ-loop : tie.MeasureT-loop
 μ-loop blocks at bytes bare₀ k₀ bare k = bytes - k
+
+mul-if1 : tie.Need-mul-if1 Inv-loop μ-loop
+mul-if1 c = search needs
+
+add-if1 : tie.Need-add-if1 Inv-loop μ-loop
+add-if1 c = search needs
+
+returns : tie.Need-returns Inv-loop μ-loop
+returns c = let a = c .before .before .args in none-bare (a .blocks) (a .at) (a .bytes) (c .if1 .taken)
 
 loop-holds : tie.Need-loop-holds Inv-loop μ-loop
 loop-holds c = (omega arith, sym (any-none _))
@@ -30,12 +39,23 @@ loop-less c = omega arith
 loop-again : tie.Need-loop-again Inv-loop μ-loop
 loop-again c =
     let l = c .before .before .loop in
-    (omega arith, gathered _ _ _ _ (l .inv .1) (bare-as _ (c .before .before .before .args .at) _ _ (c .block .ensures)))
+    (omega arith, gathered _ _ _ _ (l .inv .1) (bare-as _ (c .before .before .before .before .before .args .at) _ _ (c .block .ensures)))
 
-returns : tie.Need-returns Inv-loop μ-loop
-returns c = let l = c .before .loop in gathered-end _ _ _ _ (l .inv .1) (l .inv .0) (c .loop-test .left)
+returns-2 : tie.Need-returns-2 Inv-loop μ-loop
+returns-2 c = let l = c .before .loop in gathered-end _ _ _ _ (l .inv .1) (l .inv .0) (c .loop-test .left)
 
 pub is-bare-spec : {M : Type 1} → statement M
 is-bare-spec =
     tie.close
-    (tie.spec Inv-loop μ-loop loop-holds block-requires add-k loop-less loop-again returns)
+    (tie.spec
+    Inv-loop
+    μ-loop
+    mul-if1
+    add-if1
+    returns
+    loop-holds
+    block-requires
+    add-k
+    loop-less
+    loop-again
+    returns-2)
