@@ -164,6 +164,19 @@ module _ (address v : ℕ) (m bytes : List ℕ) (w : ℕ)
       let late = ap (λ (o : Outcome). isEarly (numberOf (o .answer))) same ∙ told .1 z in
       call-made isEarly (written address v) bytes m p r after b answer ep er (rw late eb) ea
 
+-- the answer of one that 1 and 2 do not refuse, as the code learns it
+module _
+    (memory blocks : ℕ) (busy : Bool) (address v : ℕ) (whole : memory ≡ bytesOf blocks) (chosen : bits 4 4 address ≡ 2) (held : Bool)
+    (is : held ≡ (busy && isWriteHeld address v)) where
+  abbrev Told : ℕ
+  Told = pick (eqb memory (bytesOf blocks)) (pick (eqb (bits 4 4 address) 2) (pick (busy && isWriteHeld address v) (word 10 0) 0) (word 2 0)) (word 1 0)
+
+  pub early-held : held ≡ true → word 10 0 ≡ Told
+  early-held t = rw (eq-eqb _ _ whole, eq-eqb _ _ chosen, sym is ∙ t)
+
+  pub early-none : held ≡ false → 0 ≡ Told
+  early-none f = rw (eq-eqb _ _ whole, eq-eqb _ _ chosen, sym is ∙ f)
+
 -- a write on 16 blocks whose memory is as long as they are: 2, and one that is not refused by it
 module _ (address v : ℕ) (m bytes : List ℕ) (z : getD bytes 44 0 ≡ 0) where
   abbrev after : Outcome

@@ -36,7 +36,7 @@ use Rattle.processor.specs.Moves.{carriedAll, passedOn, position, positionOf, m
 use Rattle.processor.specs.Draws.{DrawOutcome, drawnPage, drawn}
 use Rattle.processor.specs.Sizes.{Sized}
 use Rattle.processor.proofs.Carrying.{carried-register, move-pointer, both-on-page}
-use Rattle.kept.specs.Demands.{execute, Idle, isMove, StepIdle, MoveEnds, MoveGoesOn, NopEnds, MoveFitted}
+use Rattle.kept.specs.Demands.{execute, Idle, isMove, mostSteps, StepIdle, MoveEnds, MoveGoesOn, NopEnds, MoveFitted}
 use Rattle.kept.specs.Quiet.{commandRun, isStore}
 use Rattle.kept.specs.Runs.{Lent, own, other, Operation, write, read, turn, move, draw, World, first, step, run, done, registered, lentOf, memoryLent, memoryKept, chipLent, Reply, reply, replyTo}
 use Rattle.kept.proofs.Boards.{Whole, run-whole}
@@ -200,7 +200,7 @@ started o w bytes aux stops s m e =
     }
 
 pub move-ends : MoveEnds
-move-ends o w bytes aux s m e = ends bytes aux 40 (step o w) (started o w bytes aux true s m e) (omega arith)
+move-ends o w bytes aux s m e = ends bytes aux mostSteps (step o w) (started o w bytes aux true s m e) (omega arith)
 
 pub move-goes-on : MoveGoesOn
 move-goes-on o w bytes aux n s m e = endless bytes aux n (step o w) (started o w bytes aux false s m e)

@@ -7,12 +7,12 @@ use mathlib.Core.List.{List}
 use lib.Dec.{eqb}
 use Rattle.basics.specs.Bits.{isSet}
 use Rattle.basics.specs.Choice.{pick}
-use Rattle.basics.proofs.Choice.{or-neither}
+use Rattle.basics.proofs.Choice.{and-both, or-neither}
 use Rattle.command.specs.declared.Command.the-variants.{Nop}
 use Rattle.command.specs.Answers.{numberOf}
 use Rattle.processor.specs.declared.state.Processor.{Processor}
 use Rattle.processor.specs.States.{Chip, chip}
-use Rattle.processor.specs.Access.{Outcome}
+use Rattle.processor.specs.Access.{Outcome, isWhole}
 use Rattle.kept.specs.Quiet.{isStore, stores, Quiet}
 use Rattle.kept.specs.Runs.{own, other, Operation, write, read, turn, move, draw, World, chipLent, step, run}
 use Rattle.kept.proofs.Memory.{phased-same}
@@ -47,6 +47,10 @@ access-quiet address held v k p =
       accepted = λ m a b x u s f e. effect-keeps isStore _ (unstored (k .memory)) (commandIn p) (rw x at e) (chip p (k .memory)) (λ z. s) refl;
     }
 
+-- a step that moves nothing: it is refused, or nothing runs
+not-moving : (w : World) → stores (move own) w ≡ false → (isWhole (chipLent own w) && w .processor .busy) ≡ false
+not-moving w e = e
+
 pub quiet-step : (o : Operation) (w : World) → stores o w ≡ false → step o w .memory ≡ w .memory
 quiet-step (write own address v) w e = write-known _ address v (chipLent own w) (access-quiet address _ 0 (chipLent own w) _) (or-neither _ _ e)
 quiet-step (write (other b) address v) w e = refl
@@ -54,7 +58,7 @@ quiet-step (read own address) w e = read-known _ address (chipLent own w) (acces
 quiet-step (read (other b) address) w e = refl
 quiet-step (turn own n) w e = turn-keeps (λ (k : Chip). k .memory ≡ w .memory) n (chipLent own w) refl (phased-same n (chipLent own w))
 quiet-step (turn (other b) n) w e = refl
-quiet-step (move own) w e = step-known (λ (o : Outcome). o .left .memory ≡ w .memory) (chipLent own w) (λ m. refl) (λ m i. refl) (λ m b. absurd (false≢true (sym e ∙ rw (m, b))))
+quiet-step (move own) w e = step-known (λ (o : Outcome). o .left .memory ≡ w .memory) (chipLent own w) (λ m. refl) (λ m i. refl) (λ m b. absurd (false≢true (sym (not-moving w e) ∙ and-both (isWhole (chipLent own w)) (w .processor .busy) m b)))
 quiet-step (move (other b)) w e = refl
 quiet-step (draw own y z) w e = refl
 quiet-step (draw (other b) y z) w e = refl

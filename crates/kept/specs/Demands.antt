@@ -251,10 +251,13 @@ abbrev pub StepIdle : Type 0
 StepIdle = (x : Lent) (w : World) → isWhole (chipLent x w) ≡ true → Idle w → (replyTo (move x) w ≡ reply 0 0) × (step (move x) w ≡ w)
 
 -- a move with a stop ends within 40 steps, from any state in which it began
+abbrev pub mostSteps : ℕ
+mostSteps = 40
+
 abbrev pub MoveEnds : Type 0
 MoveEnds =
     (o : Operation) (w : World) (bytes : ℕ) (auxiliary : Bool) → Sized (w .processor) → memoryLent o ≡ own →
-    commandRun o w ≡ Move bytes auxiliary true → Idle (run (replicate 40 (move own)) (step o w))
+    commandRun o w ≡ Move bytes auxiliary true → Idle (run (replicate mostSteps (move own)) (step o w))
 
 -- one without runs on, however many steps there are
 abbrev pub MoveGoesOn : Type 0

@@ -198,10 +198,11 @@ module _ (p : Processor) (m rom picture : List ℕ) where
 
           pub draw-done :
               b8 ≡ false → (after : List ℕ) (rows : ℕ) → after ≡ redrawn (p .marks) picture m rom shown → rows ≡ markedRows (p .marks) 25 →
-              drawOutcome (withMarks p noneMarked) after (drawing.Accepted rows) ≡ drawn p m rom picture
+              (marks : List Bool) → marks ≡ noneMarked → drawOutcome (withMarks p marks) after (drawing.Accepted rows) ≡ drawn p m rom picture
           unfolding drawn drawnPage
-          draw-done f8 after rows ea en =
+          draw-done f8 after rows ea en marks ec =
               rw (
+                ec,
                 ea,
                 en,
                 eq-eqb _ _ em,

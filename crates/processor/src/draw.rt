@@ -1,5 +1,6 @@
 // The draw.
 ghost use mathlib.Core.Path.{_≡_};
+ghost use Rattle.page.specs.Marks.{noneMarked};
 ghost use Rattle.processor.specs.Draws.{drawOutcomeOf, drawn};
 use crate::state::Processor;
 use board::bytes_of;
@@ -20,6 +21,13 @@ fn refused(p: Processor, answer: Drawing) -> Drawn
         processor: p,
         answer,
     }
+}
+
+// The marks after a draw.
+fn none_marked() -> [bool; 25]
+    ensures { λ r. ⌜ r ≡ noneMarked ⌝ }
+{
+    [false; 25]
 }
 
 impl Processor {
@@ -46,7 +54,8 @@ impl Processor {
         }
         let marks = self.marks;
         let rows = redraw(picture, memory, rom, shown, marks);
-        self.marks = [false; 25];
+        let after = none_marked();
+        self.marks = after;
         Drawn {
             processor: self,
             answer: Drawing::Accepted(rows),

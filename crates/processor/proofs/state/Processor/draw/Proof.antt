@@ -1,5 +1,4 @@
 use Rattle.processor.proofs.Ways.{draw-memory-refused, rom-refused, picture-refused, draw-refused-7, draw-refused-8, draw-done}
-use Rattle.basics.specs.Parts.{joined}
 use Rattle.shown.proofs.Refusals.{asked-length}
 use mathlib.Core.Path.{_∙_}
 use borrow.Author.Needs.{needs}
@@ -92,11 +91,13 @@ redraw-requires c κs = let f = c .before .before .before .before in
       e .if2 .left ∙ a .rom-asked .ensures,
     )
 
+none-marked-requires : tie.Need-none-marked-requires
+none-marked-requires c κs = search needs
+
 same-length : tie.Need-same-length
 same-length c = search needs
 
 returns-6 : tie.Need-returns-6
-unfolding joined
 returns-6 c = let r = c .before .before .before in
     let t = r .before .before .before in
     let o = t .before in
@@ -108,7 +109,7 @@ returns-6 c = let r = c .before .before .before in
     let h = a .before in
     let l = h .before in
     draw-done _ _ _ _ (l .if1 .left ∙ l .before .bytes-of .ensures) _ (h .shown .ensures) _ (a .rom-asked .ensures) (e .if2 .left) _ (q .picture-asked .ensures) (g .if3 .left)
-    (f .if4 .left) _ (o .is-refused-8 .ensures) (t .if5 .left) _ _ (r .redraw .ensures .0) (r .redraw .ensures .1)
+    (f .if4 .left) _ (o .is-refused-8 .ensures) (t .if5 .left) _ _ (r .redraw .ensures .0) (r .redraw .ensures .1) _ (c .none-marked .ensures)
 
 pub draw-spec : {M : Type 1} → statement M
 draw-spec =
@@ -130,5 +131,6 @@ draw-spec =
     refused-requires-5
     returns-5
     redraw-requires
+    none-marked-requires
     same-length
     returns-6)
