@@ -1,6 +1,6 @@
 //! Shows the page that register accesses draw, in the terminal and as a PNG, and holds the
-//! demonstration pages, one of 40 columns for either part, one of 80 for the EF9345 and one that this scrolls:
-//! the accesses with which a plant's controller would program the chip.
+//! demonstration pages, one of 40 columns for either part, one of 80 for the EF9345 and a list that it
+//! scrolls: the accesses with which a plant's controller would program the chip.
 
 pub mod access;
 pub mod arguments;
