@@ -3,6 +3,7 @@ ghost use mathlib.Core.Path.{_≡_};
 ghost use mathlib.Core.Bool.{true};
 ghost use lib.ListN.{length, set};
 ghost use Prim.Native.Nat.{ℕ, _<_, _≤_};
+ghost use Rattle.basics.specs.Choice.{pick};
 ghost use Rattle.board.specs.Boards.{bytesOf};
 ghost use Rattle.address.specs.Places.{blockAt, loaded};
 ghost use Rattle.address.specs.Triples.{legalIn};
@@ -29,10 +30,10 @@ fn load_after(memory: &[u8], blocks: u8, at: Triple, stored: usize, value: u8) -
     memory[here]
 }
 
-// The second byte, where it is asked for: the first is stored by then.
+// The second byte, where it is asked for, and 0 where it is not: the first is stored by then.
 fn second_byte(asked: bool, memory: &[u8], blocks: u8, at: Triple, first: usize, c: u8) -> u8
     requires { ⌜ (length (now memory) ≡ bytesOf blocks) × (first < bytesOf blocks) × (asked ≡ true → legalIn blocks at ≡ true) ⌝ }
-    ensures { λ r. ⌜ (asked ≡ true → r ≡ loaded at (set (now (memory .entry)) first c)) ⌝ }
+    ensures { λ r. ⌜ r ≡ pick asked (loaded at (set (now (memory .entry)) first c)) 0 ⌝ }
 {
     if asked {
         return load_after(memory, blocks, at, first, c);
@@ -52,7 +53,7 @@ fn third_byte(
     b: u8,
 ) -> u8
     requires { ⌜ (length (now memory) ≡ bytesOf blocks) × (first < bytesOf blocks) × (asked ≡ true → (legalIn blocks at ≡ true) × (second < bytesOf blocks)) ⌝ }
-    ensures { λ r. ⌜ (asked ≡ true → r ≡ loaded at (set (set (now (memory .entry)) first c) second b)) ⌝ }
+    ensures { λ r. ⌜ r ≡ pick asked (loaded at (set (set (now (memory .entry)) first c) second b)) 0 ⌝ }
 {
     if !asked {
         return 0;

@@ -86,8 +86,8 @@ returns : tie.Need-returns
 returns c = let s = c .before .before .before .before .before .before .before .before .before .before .before .before .before .before .before .before .before .before .before .before .before .before .before .before .before .before .before .before in
     all-left (s .args .from) (s .args .to) (chip (s .args .t1) (s .args .memory .now)) _ _ _ _ _ _ _ _ (s .args .bytes) (s .pre .1) (s .pre .2) (c .before .before .before .before .before .before .before .shown .ensures)
     (c .before .before .before .before .before .before .before .before .before .before .before .before .before .before .before .before .before .before .before .before .before .before .place .ensures ∙ rw (c .before .before .before .before .before .before .before .before .before .before .before .before .before .before .before .before .before .before .before .before .before .before .before .block-at .ensures) refl) (c .before .before .before .before .before .before .before .before .before .before .before .before .before .before .before .before .before .before .before .before .place2 .ensures ∙ rw (c .before .before .before .before .before .before .before .before .before .before .before .before .before .before .before .before .before .before .before .before .before .block-at2 .ensures) refl) (c .before .before .before .before .before .before .before .before .before .before .before .before .before .before .before .before .before .before .place3 .ensures ∙ rw (c .before .before .before .before .before .before .before .before .before .before .before .before .before .before .before .before .before .before .before .block-at3 .ensures) refl)
-    (c .before .before .before .before .before .before .before .before .before .before .before .before .before .before .before .load .ensures ∙ rw (c .before .before .before .before .before .before .before .before .before .before .before .before .before .before .before .before .block-at4 .ensures) refl) (λ t. c .before .before .before .before .before .before .before .before .before .before .before .before .second-byte .ensures t ∙ rw (c .before .before .before .before .before .before .before .before .before .before .before .before .before .block-at5 .ensures) refl)
-    (λ t. c .before .before .before .before .before .before .before .before .before .third-byte .ensures t ∙ rw (c .before .before .before .before .before .before .before .before .before .before .block-at6 .ensures) refl) (c .before .before .before .before .before .span-marks .ensures) _ _ (c .last-of .ensures) (c .before .before .before .store-all .ensures)
+    (c .before .before .before .before .before .before .before .before .before .before .before .before .before .before .before .load .ensures ∙ rw (c .before .before .before .before .before .before .before .before .before .before .before .before .before .before .before .before .block-at4 .ensures) refl) (λ t. c .before .before .before .before .before .before .before .before .before .before .before .before .second-byte .ensures ∙ rw (t, c .before .before .before .before .before .before .before .before .before .before .before .before .before .block-at5 .ensures) refl)
+    (λ t. c .before .before .before .before .before .before .before .before .before .third-byte .ensures ∙ rw (t, c .before .before .before .before .before .before .before .before .before .before .block-at6 .ensures) refl) (c .before .before .before .before .before .span-marks .ensures) _ _ (c .last-of .ensures) (c .before .before .before .store-all .ensures)
 
 pub carry-all-spec : {M : Type 1} → statement M
 carry-all-spec =
