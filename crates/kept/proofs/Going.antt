@@ -2,40 +2,35 @@
 -- Assumes nothing.
 use Prim.Native.Nat.{ℕ, _/_, _<_, _≤_}
 use mathlib.Core.Path.{_≡_, refl, sym, ap, subst, _∙_}
-use mathlib.Core.Bool.{Bool, true, false, not, _&&_, _||_}
-use mathlib.Core.List.{List, [], _∷_, _++_}
+use mathlib.Core.Bool.{Bool, true, false}
+use mathlib.Core.List.{List}
 use mathlib.Core.Logic.{_⊎_, inl, inr, ⊎-elim}
-use native.Mathlib.Omega.{arith}
-use lib.ListN.{length, getD, set, length-set}
+use lib.ListN.{length, getD, set}
 use Rattle.basics.specs.Bits.{bits}
 use Rattle.basics.specs.Choice.{pick}
 use Rattle.basics.proofs.Choice.{pick-either}
-use Rattle.address.specs.Addresses.{isIllegal, isNotFitted, someAddress, allFitted}
+use Rattle.address.specs.Addresses.{isIllegal, isNotFitted}
 use Rattle.address.specs.Places.{blockAt}
 use Rattle.address.specs.Pointers.{mainPointer, auxiliaryPointer}
 use Rattle.address.specs.Triples.{legal, legalIn}
 use Rattle.address.specs.declared.triple.Triple.{Triple}
-use Rattle.address.proofs.Fits.{all-fitted}
 use Rattle.address.proofs.Laws.{page-column, page-row, Row}
 use Rattle.board.specs.declared.Part.{Part}
 use Rattle.command.specs.declared.Command.{Command}
 use Rattle.command.specs.declared.Command.the-variants.{Move}
 use Rattle.command.proofs.Asked.{asked-for}
 use Rattle.command.specs.Commands.{commandFor, Asked}
-use Rattle.moves.specs.Onward.{isLast, nextX, nextY, mainX, mainY, across, down, onward, isEnd}
+use Rattle.moves.specs.Onward.{isLast, nextX, nextY, mainX, mainY, across, down, onward}
 use Rattle.moves.specs.Spans.{spanAddresses}
 use Rattle.moves.proofs.Pointers.{x-stays, y-stays, main-block-stays, auxiliary-block-stays, main-at, auxiliary-at, gone-on}
 use Rattle.moves.proofs.Spans.{some-both, span-fitted}
 use Rattle.processor.specs.declared.state.Processor.{Processor}
-use Rattle.processor.specs.States.{Chip, registerOf, withBusy}
+use Rattle.processor.specs.States.{registerOf}
 use Rattle.processor.specs.Pointers.{pointerOf}
-use Rattle.processor.specs.Bytes.{stored}
-use Rattle.processor.specs.Access.{addressesOf, isAstray, isUnfitted}
-use Rattle.processor.specs.Moves.{carriedAll, passedOn, position, positionOf, moved}
-use Rattle.processor.specs.Sizes.{Sized}
-use Rattle.processor.proofs.Carrying.{carried-register, move-pointer, move-legal}
+use Rattle.processor.specs.Access.{isAstray, isUnfitted}
+use Rattle.processor.proofs.Carrying.{move-pointer, move-legal}
 use Rattle.kept.proofs.Programs.{eight}
-use Rattle.kept.proofs.Walk.{commandIn, carried-keeps}
+use Rattle.kept.proofs.Walk.{commandIn}
 
 -- the command in R0 is a move with legal, fitted pointers
 pub record Runs (bytes : ℕ) (auxiliary stops : Bool) (p : Processor) : Type 0 where

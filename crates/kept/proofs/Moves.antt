@@ -1,14 +1,14 @@
 -- Moves: a step while nothing runs, how a move ends, and its pointers over every run.
 -- Assumes nothing.
-use Prim.Native.Nat.{ℕ, zero, suc, _+_, _/_, _%_, _<_, _≤_}
+use Prim.Native.Nat.{ℕ, zero, suc, _+_, _/_, _%_, _≤_}
 use mathlib.Core.Path.{_≡_, refl, sym, ap, subst, _∙_}
-use mathlib.Core.Bool.{Bool, true, false, not, _&&_, _||_, and-false, false≢true}
+use mathlib.Core.Bool.{Bool, true, false, not, _&&_, and-false, false≢true}
 use mathlib.Core.List.{List, [], _∷_}
 use mathlib.Core.Logic.{_≢_, ⊎-elim}
 use native.Mathlib.Omega.{arith}
 use lib.Dec.{eqb, leb}
 use lib.Seq.{getD-set-same}
-use lib.ListN.{length, getD, length-set, replicate}
+use lib.ListN.{length, length-set, replicate}
 use borrow.Author.Tests.{eqb-true, eqb-false, eq-eqb, ne-eqb, leb-true, not-false}
 use Rattle.basics.specs.Bits.{bits, isSet}
 use Rattle.basics.proofs.Choice.{bool-cases, eq-or-ne, and-left, and-right, and-none, or-none, pick-either}
@@ -26,27 +26,27 @@ use Rattle.command.specs.Held.{isReadHeld, isWriteHeld}
 use Rattle.command.proofs.Listed.{named, lists-nop}
 use Rattle.moves.specs.Onward.{isLast, auxiliaryX, mainX, onward, isEnd}
 use Rattle.moves.proofs.Going.{last-as}
-use Rattle.moves.proofs.Pointers.{x-more, main-at}
+use Rattle.moves.proofs.Pointers.{x-more}
 use Rattle.processor.specs.declared.state.Processor.{Processor}
-use Rattle.processor.specs.States.{Chip, chip, registerOf, poweredUp, withRegister, withBusy, cleared, indirectWritten}
+use Rattle.processor.specs.States.{Chip, chip, registerOf, poweredUp, withRegister}
 use Rattle.processor.specs.Pointers.{pointerOf}
 use Rattle.processor.specs.Bytes.{stored}
-use Rattle.processor.specs.Access.{Outcome, outcome, isUnlisted, isAstray, isUnfitted, effect, isWhole, addressesOf, written, readOut, phased}
-use Rattle.processor.specs.Moves.{carriedAll, passedOn, position, positionOf, moved, stepped}
+use Rattle.processor.specs.Access.{Outcome, isUnlisted, isAstray, isUnfitted, effect, addressesOf, written, readOut, phased}
+use Rattle.processor.specs.Moves.{carriedAll, passedOn, position, positionOf, moved}
 use Rattle.processor.specs.Draws.{DrawOutcome, drawnPage, drawn}
 use Rattle.processor.specs.Sizes.{Sized}
 use Rattle.processor.proofs.Carrying.{carried-register, move-pointer, both-on-page}
-use Rattle.kept.specs.Demands.{execute, Idle, isMove, mostSteps, StepIdle, MoveEnds, MoveGoesOn, NopEnds, MoveFitted}
+use Rattle.kept.specs.Demands.{Idle, isMove, mostSteps, StepIdle, MoveEnds, MoveGoesOn, NopEnds, MoveFitted}
 use Rattle.kept.specs.Quiet.{commandRun, isStore}
-use Rattle.kept.specs.Runs.{Lent, own, other, Operation, write, read, turn, move, draw, World, first, step, run, done, registered, lentOf, memoryLent, memoryKept, chipLent, Reply, reply, replyTo}
+use Rattle.kept.specs.Runs.{Lent, own, other, Operation, write, read, turn, move, draw, World, first, step, run, lentOf, memoryLent, memoryKept, chipLent, Reply, reply}
 use Rattle.kept.proofs.Boards.{Whole, run-whole}
 use Rattle.kept.proofs.Going.{Runs, bytes-asked, Onto, onward-onto, runs-on}
 use Rattle.kept.proofs.Programs.{command-there, execute-reply}
-use Rattle.kept.proofs.Ran.{isNop, command-ran, command-named, registered-blocks}
-use Rattle.kept.proofs.Refusals.{worldWith, worlds-same}
-use Rattle.kept.proofs.Running.{busy-kept, no-nop}
+use Rattle.kept.proofs.Ran.{command-ran, command-named, registered-blocks}
+use Rattle.kept.proofs.Refusals.{worlds-same}
+use Rattle.kept.proofs.Running.{busy-kept}
 use Rattle.kept.proofs.Sizes.{step-sized, power-up-sized}
-use Rattle.kept.proofs.Walk.{Ends, commandIn, afterWrite, turnsBusy, write-known, read-known, step-known, turn-keeps, draw-known, effect-keeps, carried-keeps, run-known}
+use Rattle.kept.proofs.Walk.{commandIn, afterWrite, turnsBusy, write-known, read-known, step-known, turn-keeps, draw-known, effect-keeps, carried-keeps, run-known}
 
 -- a step while nothing runs
 kept-same : (x : Lent) (m : List ℕ) → memoryKept x m (lentOf x m) ≡ m
@@ -325,32 +325,29 @@ read-sound address k h =
           (λ t. absurd (false≢true (sym (busy-read address (and-none (p .busy) (isReadHeld address) b t)) ∙ x)));
     })
 
+-- the marks and the phase have no part in it
+same-known : (p q : Processor) → q .registers ≡ p .registers → q .part ≡ p .part → q .blocks ≡ p .blocks → Known p → Known q
+unfolding pointerOf
+same-known p q er ep eb x =
+    record {
+      bytes = x .bytes;
+      aux = x .aux;
+      stops = x .stops;
+      runs = record { is = rw (er, ep) (x .runs .is); astray = rw (er, ep, eb) (x .runs .astray); unfitted = rw (er, ep, eb) (x .runs .unfitted) };
+    }
+
 -- a phase change, a draw and a step
 phased-sound : (n : ℕ) (k : Chip) → SoundChip k → SoundChip (phased n k)
-unfolding phased pointerOf
+unfolding phased
 phased-sound n k h =
     pick-either SoundChip (eqb (k .processor .phase) n) k _ h
-    (λ t.
-    let x = h t in
-    record {
-      bytes = x .bytes;
-      aux = x .aux;
-      stops = x .stops;
-      runs = record { is = x .runs .is; astray = x .runs .astray; unfitted = x .runs .unfitted };
-    })
+    (λ t. same-known (k .processor) _ refl refl refl (h t))
 
 drawn-sound : (p : Processor) (m rom picture : List ℕ) → Sound p → Sound (drawn p m rom picture .processor)
-unfolding drawnPage pointerOf
+unfolding drawnPage
 drawn-sound p m rom picture h =
     draw-known (λ (o : DrawOutcome). Sound (o .processor)) p m rom picture (λ a e n. h)
-    (λ e can t.
-    let x = h t in
-    record {
-      bytes = x .bytes;
-      aux = x .aux;
-      stops = x .stops;
-      runs = record { is = x .runs .is; astray = x .runs .astray; unfitted = x .runs .unfitted };
-    })
+    (λ e can t. same-known p _ refl refl refl (h t))
 
 moved-sound : (k : Chip) → Sized (k .processor) → k .processor .busy ≡ true → SoundChip k → SoundChip (moved (commandIn (k .processor)) k)
 moved-sound k s b h =

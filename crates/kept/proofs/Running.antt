@@ -1,11 +1,9 @@
--- A move that runs: what commands do to busy, and what is known of a move from its start until it ends.
+-- What commands do to busy.
 -- Assumes nothing.
-use Prim.Native.Nat.{ℕ}
 use mathlib.Core.Path.{_≡_, refl, sym, _∙_}
 use mathlib.Core.Bool.{Bool, true, false, false≢true}
 use Rattle.command.specs.declared.Command.{Command}
 use Rattle.command.specs.declared.Command.the-variants.{Nop, Ind, Krf, Oct, Krl, Move, NotListed}
-use Rattle.address.specs.declared.triple.Triple.{Triple}
 use Rattle.processor.specs.States.{Chip, indirectWritten}
 use Rattle.processor.specs.Bytes.{stored}
 use Rattle.kept.proofs.Ran.{isNop}
