@@ -1,18 +1,17 @@
 -- The next X and the next Y as the code works them out, and what they leave.
 -- Assumes nothing.
-use Prim.Native.Nat.{ℕ, _+_, _-_, _%_, _<_}
-use mathlib.Core.Path.{_≡_, refl, sym, _∙_}
-use mathlib.Core.Bool.{Bool, true, false, _&&_, _||_}
+use Prim.Native.Nat.{ℕ, _+_, _-_, _%_}
+use mathlib.Core.Path.{_≡_}
+use mathlib.Core.Bool.{Bool, true, false}
 use mathlib.Core.List.{List}
 use native.Mathlib.Omega.{arith}
 use lib.Dec.{eqb}
-use lib.ListN.{getD, set}
+use lib.ListN.{set}
 use lib.Seq.{getD-set-other}
-use borrow.Author.Tests.{eq-eqb, ne-eqb, eqb-true, eqb-false}
+use borrow.Author.Tests.{eq-eqb, ne-eqb}
 use Rattle.basics.specs.Bits.{bits}
-use Rattle.basics.specs.Choice.{pick}
 use Rattle.basics.proofs.Choice.{pick-either}
-use Rattle.moves.specs.Onward.{isLast, nextX, nextY, auxiliaryX, mainY, mainX, BothOnPage, across, down, onward, isEnd}
+use Rattle.moves.specs.Onward.{isLast, nextX, nextY, auxiliaryX, mainY, mainX, BothOnPage, down, isEnd}
 
 low-six : (v : ℕ) → bits 0 6 v ≡ v % 64
 low-six v = omega arith

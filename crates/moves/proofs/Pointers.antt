@@ -1,20 +1,19 @@
 -- A pointer that has gone on: its X and Y are legal where they were, and its block is the one that it was.
 -- Assumes nothing.
 use Prim.Native.Nat.{ℕ, _+_, _/_, _%_, _<_, _≤_}
-use mathlib.Core.Path.{_≡_, refl, ap, _∙_}
-use mathlib.Core.Bool.{true, _&&_}
+use mathlib.Core.Path.{_≡_, refl}
+use mathlib.Core.Bool.{true}
 use mathlib.Core.Logic.{inr, ⊎-elim}
 use native.Mathlib.Omega.{arith}
-use borrow.Author.Tests.{lt-ltb}
 use Rattle.basics.specs.Bits.{bit, bits}
 use Rattle.basics.proofs.Choice.{and-both, and-right, eq-or-ne}
 use Rattle.board.specs.declared.Part.{Part}
 use Rattle.board.specs.declared.Part.the-variants.{Ef9345, Ts9347}
 use Rattle.address.specs.Places.{blockAt}
 use Rattle.address.specs.Pointers.{mainPointer, auxiliaryPointer}
-use Rattle.address.specs.Triples.{legal, fitted, legalIn, onPage}
+use Rattle.address.specs.Triples.{legal, legalIn}
 use Rattle.address.specs.declared.triple.Triple.{Triple}
-use Rattle.address.proofs.Laws.{page-column, page-row, facts-page, Row}
+use Rattle.address.proofs.Laws.{facts-page, Row}
 use Rattle.moves.specs.Onward.{nextX, nextY}
 use Rattle.moves.proofs.Going.{next-last, next-more, next-31, next-0, next-row}
 

@@ -2,7 +2,7 @@
 -- Assumes nothing.
 use Prim.Native.Nat.{ℕ, zero, suc, _+_, _*_, _/_, _<_, _≤_}
 use mathlib.Core.Path.{_≡_, refl, sym, ap, ap₂, _∙_}
-use mathlib.Core.Bool.{Bool, true, false, not, _&&_, _||_, or-assoc, or-false}
+use mathlib.Core.Bool.{Bool, true, false, not, _||_, or-assoc, or-false}
 use mathlib.Core.List.{List, [], _∷_, _++_}
 use mathlib.Core.Logic.{⊎-elim}
 use native.Mathlib.Omega.{arith}
@@ -14,7 +14,7 @@ use Rattle.basics.proofs.Below.{any-not, any-same, any-never}
 use Rattle.basics.proofs.Choice.{lt-or-le}
 use Rattle.address.specs.Addresses.{addressOf, isIllegal, isNotFitted, someAddress}
 use Rattle.address.specs.Places.{blockAt}
-use Rattle.address.specs.Triples.{legal, fitted, legalIn}
+use Rattle.address.specs.Triples.{legal, legalIn}
 use Rattle.address.specs.declared.answer.Address.{Address}
 use Rattle.address.specs.declared.triple.Triple.{Triple}
 use Rattle.address.proofs.Addresses.{illegal-test, bare-test}

@@ -3,9 +3,6 @@ use Rattle.command.proofs.Listed.{passed, unlisted, unlisted-move, list
 use borrow.Author.Needs.{needs}
 use Rattle.command.proofs.command_for.Statement.{statement}
 use Rattle.command.proofs.command_for.Tie as tie
-use Rattle.command.proofs.command_for.Reads as reads
-use Rattle.command.proofs.command_for.Lts as lts
-use Rattle.command.proofs.command_of.Reads as command-of-reads
 
 command-of-requires : tie.Need-command-of-requires
 command-of-requires c κs = search needs

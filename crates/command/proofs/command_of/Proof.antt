@@ -11,8 +11,6 @@ use Prim.Native.Nat.{_-_}
 use borrow.Author.Needs.{needs}
 use Rattle.command.proofs.command_of.Statement.{statement}
 use Rattle.command.proofs.command_of.Tie as tie
-use Rattle.command.proofs.command_of.Reads as reads
-use Rattle.command.proofs.command_of.Lts as lts
 
 -- src/lib.rt:36:37
 sub-t12 : tie.Need-sub-t12
