@@ -5,7 +5,7 @@ ghost use Rattle.address.specs.Addresses.{address_of};
 use crate::place::place;
 use crate::triple::{Triple, is_legal};
 
-#[derive(Drop)]
+#[derive(Clone, Copy)]
 pub enum Address {
     // X above 39, or Y from 1 to 7.
     Illegal,

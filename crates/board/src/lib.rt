@@ -2,7 +2,7 @@
 ghost use Rattle.std.specs.Prelude.{◌≡◌};
 ghost use Rattle.board.specs.Boards.{is_part, part_named, part_number, is_board, bytes_of};
 
-#[derive(Drop)]
+#[derive(Clone, Copy)]
 pub enum Part {
     Ef9345,
     Ts9347,

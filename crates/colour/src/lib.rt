@@ -4,7 +4,7 @@ pub mod palette;
 ghost use Rattle.std.specs.Prelude.{◌≡◌};
 ghost use Rattle.colour.specs.Colours.{colour_of, nibble_of, packed_of};
 
-#[derive(Drop)]
+#[derive(Clone, Copy)]
 pub struct Colour(pub u8);
 
 impl Colour {

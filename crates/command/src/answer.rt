@@ -3,7 +3,7 @@ ghost use Rattle.std.specs.Prelude.{◌≡◌};
 ghost use Rattle.command.specs.Answers.{number_of, value_of, power_number_of, draw_number_of, rows_of};
 
 // Of an access, a phase change or a step, with the value where it has one.
-#[derive(Drop)]
+#[derive(Clone, Copy)]
 pub enum Answer {
     Accepted(u8),
     // 1: private memory is not 1,024 bytes for each block of the board.
@@ -23,7 +23,7 @@ pub enum Answer {
 }
 
 // Of a power-up.
-#[derive(Drop)]
+#[derive(Clone, Copy)]
 pub enum PowerUp {
     Accepted,
     // 12: the number of blocks is not 2, 8 or 16, or 32 of a TS9347.
@@ -33,7 +33,7 @@ pub enum PowerUp {
 }
 
 // Of a draw, with the number of rows.
-#[derive(Drop)]
+#[derive(Clone, Copy)]
 pub enum Drawing {
     Accepted(usize),
     // 1: private memory is not 1,024 bytes for each block of the board.

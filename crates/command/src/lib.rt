@@ -8,7 +8,7 @@ ghost use Rattle.command.specs.Commands.{command_of, command_for};
 
 use board::Part;
 
-#[derive(Drop)]
+#[derive(Clone, Copy)]
 pub enum Command {
     Nop,
     // r, and whether R1 is loaded from the register.

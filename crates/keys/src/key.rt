@@ -8,7 +8,7 @@ use shown::Shown;
 
 // The character; then b / 32, b / 16 and b / 8 of the B bytes whose source is one of the blocks: user G'0, user G'10 and G'11, and
 // quadrichrome or Q in each block. 255 where no byte's is.
-#[derive(Drop)]
+#[derive(Clone, Copy)]
 pub struct Keys {
     pub character: u8,
     pub user0: u8,

@@ -3,7 +3,7 @@ ghost use Rattle.std.specs.Prelude.{◌≡◌};
 ghost use Rattle.narrow.specs.Codes.{even_of, odd_of};
 
 // Its C byte and its four attributes.
-#[derive(Drop)]
+#[derive(Clone, Copy)]
 pub struct Narrow {
     pub character: u8,
     pub attributes: u8,

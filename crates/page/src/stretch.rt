@@ -19,7 +19,7 @@ pub fn start(z: u8, y: u8, first: u16, k: u8) -> usize
 }
 
 // Where its C, B and A bytes start.
-#[derive(Drop)]
+#[derive(Clone, Copy)]
 pub struct Starts {
     pub c: usize,
     pub b: usize,

@@ -10,7 +10,7 @@ use processor::state::Processor;
 use shown::length::{PICTURE_BYTES, ROM_BYTES, ROW_BYTES};
 
 // The state after some writes, and the number of the last one's answer.
-#[derive(Drop)]
+#[derive(Clone, Copy)]
 struct Fed {
     processor: Processor,
     last: u8,

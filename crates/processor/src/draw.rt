@@ -9,7 +9,7 @@ use command::answer::Drawing;
 use picture::redraw::redraw;
 
 // The state after a draw, with the answer.
-#[derive(Drop)]
+#[derive(Clone, Copy)]
 pub struct Drawn {
     pub processor: Processor,
     pub answer: Drawing,

@@ -16,7 +16,7 @@ use command::{Command, command_for};
 use moves::span::is_bare;
 
 // The state after an access, with the answer.
-#[derive(Drop)]
+#[derive(Clone, Copy)]
 pub struct Answered {
     pub processor: Processor,
     pub answer: Answer,

@@ -8,7 +8,7 @@ use board::{BLOCKS, Part, is_board, is_part, part_named};
 use command::answer::PowerUp;
 
 // The state after a power-up, with the answer.
-#[derive(Drop)]
+#[derive(Clone, Copy)]
 pub struct PoweredUp {
     pub processor: Processor,
     pub answer: PowerUp,

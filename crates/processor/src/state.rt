@@ -6,7 +6,7 @@ ghost use Rattle.processor.specs.States.{status_of, with_register, with_busy, re
 use board::Part;
 use shown::Shown;
 
-#[derive(Drop)]
+#[derive(Clone, Copy)]
 pub struct Processor {
     // R0 is the command.
     pub registers: [u8; 8],

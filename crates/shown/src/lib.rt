@@ -12,7 +12,7 @@ ghost use Rattle.shown.specs.Refusals.{refused7, refused8, can_draw};
 use crate::length::{EIGHTY_PICTURE_BYTES, PICTURE_BYTES, ROM_BYTES, TS9347_ROM_BYTES};
 use board::Part;
 
-#[derive(Drop)]
+#[derive(Clone, Copy)]
 pub struct Shown {
     pub part: Part,
     pub tgs: u8,

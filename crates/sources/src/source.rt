@@ -15,7 +15,7 @@ use address::triple::is_legal_y;
 use board::Part;
 use shown::Shown;
 
-#[derive(Drop)]
+#[derive(Clone, Copy)]
 pub enum Source {
     // A ROM set, by its place in the ROM.
     Rom(u8),

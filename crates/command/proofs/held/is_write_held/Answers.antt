@@ -1,0 +1,15 @@
+use Rattle.command.proofs.Holding.{held_lower, held_below, held_above}
+use borrow.Author.Tests.{not-true, not-false}
+use Rattle.command.proofs.held.is_write_held.Goals as goal
+
+pub returns-then-not-busy : goal.returns-then-not-busy
+returns-then-not-busy c = rw c.if-not-busy.true
+
+pub returns-then-address-ne8 : goal.returns-then-address-ne8
+returns-then-address-ne8 c = rw c.if-not-busy.false (held_lower _ _ c.if-address-ne8.true)
+
+pub returns-then-value-lt144 : goal.returns-then-value-lt144
+returns-then-value-lt144 c = rw c.if-not-busy.false (held_below _ _ c.if-address-ne8.false c.if-value-lt144.true)
+
+pub returns : goal.returns
+returns c = rw c.if-not-busy.false (held_above _ _ c.if-address-ne8.false c.if-value-lt144.false)

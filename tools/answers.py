@@ -1,0 +1,232 @@
+#!/usr/bin/env python3
+"""Turns the proofs of a crate's functions from the form that walked the code (`Proof.antt`) to today's `Invariants.antt` and `Answers.antt`.
+
+usage: tools/answers.py NAMES CRATE [FUNCTION..]     at the top of the repository
+
+NAMES is the names.json that `rt check --generated FOLDER --old-names` writes in the crate's folder: it lists each goal and step with its old and its
+new name. An answer that says no more than `search rules` is left out, since the check tries that by itself. What could not be turned is told,
+and is then mended by hand. Run it once for a crate, with everything committed.
+"""
+
+import json
+import os
+import re
+import sys
+
+PLAIN = re.compile(r"search (rules|needs)|omega arith|tt|refl")
+PATH = r"(?:\.[^\s(){}\[\];,.]+)+"
+
+
+def plain(name):
+    return re.sub("[-_]", "-", name)
+
+
+def blocks(text):
+    """The declarations of a file: the lines of each, with the comment above it."""
+    out, now = [], []
+    for line in text.split("\n"):
+        starts = line[:1] not in ("", " ", "\t") and not line.startswith(("unfolding", "--"))
+        if starts and now and not all(x.startswith("--") or not x for x in now):
+            name = re.match(r"(?:abbrev |pub )*([^\s:]+)", line).group(1)
+            first = next(x for x in now if x and not x.startswith("--"))
+            if re.match(r"(?:abbrev |pub )*([^\s:]+)", first).group(1) != name or first.startswith("use "):
+                out.append(now)
+                now = []
+        now.append(line)
+    out.append(now)
+    return ["\n".join(it).strip("\n") for it in out]
+
+
+class Function:
+    def __init__(self, names, said):
+        self.said = said
+        self.place = {p[0]: (p[1], p[2], i) for i, p in enumerate(names["places"])}
+        self.arms = names["arms"]
+        self.needs = {}
+        for (old, new), (at, _) in zip(names["needs"], names["asked_at"]):
+            self.needs.setdefault(plain(old), (new, at))
+        self.args = {tuple(a.replace(".", " ").split()): b.replace(".", " ").split() for a, b in names["args"]}
+        self.loops = names["loops"]
+        self.changed = names["changed"]
+        self.asks = {new for _, new in names["needs"]}
+
+    def up(self, at, n):
+        for _ in range(n):
+            if at is None or at not in self.place:
+                return None
+            at = self.place[at][0]
+        return at
+
+    def step(self, asked, at, fields):
+        """The new path, behind the `c` of the goal that is asked at a place, of the old fields behind a place before it."""
+        if not fields:
+            return []
+        if tuple(fields[:2]) in self.args:
+            fields = self.args[tuple(fields[:2])] + fields[2:]
+        first = plain(fields[0])
+        if first in ("args", "requires", "ranges", "well-formed", "type-inv", "utf8"):
+            return [first.replace("-", "_")] + fields[1:]
+        # An arm has the tests on the way to it.
+        spot = asked
+        while spot is not None:
+            parent, _, i = self.place[spot]
+            arm = self.arms[i] if i < len(self.arms) else None
+            for field, step, path in arm[2] if arm else []:
+                if plain(step) == first and fields[1 : 1 + len(path)] == path:
+                    return [arm[0], field] + fields[1 + len(path) :]
+            spot = parent
+        spot = at
+        while spot is not None:
+            parent, (old, new), _ = self.place[spot]
+            if plain(old) == first:
+                return [new] + fields[1:]
+            spot = parent
+        self.said(f"step {'.'.join(fields)} at {at}")
+        return fields
+
+    def body(self, text, at):
+        """The answer's text with its paths turned. A name that was bound to a place alone is a place too."""
+        places = {"c": at}
+        bound = re.compile(r"let ([^\s:]+) = ([^\s(){}\[\];,.]+)((?:\.before)*) in\s*")
+        out, pos = [], 0
+        token = re.compile(r"let ([^\s:]+) = ([^\s(){}\[\];,.]+)((?:\.before)*) in\s*|(?<![^\s(){}\[\];,])([^\s(){}\[\];,.]+)(" + PATH + r")?")
+        for m in token.finditer(text):
+            out.append(text[pos : m.start()])
+            pos = m.end()
+            if m.group(1):
+                if m.group(2) in places:
+                    places[m.group(1)] = self.up(places[m.group(2)], m.group(3).count(".before"))
+                    if places[m.group(1)] is None:
+                        self.said(f"place {m.group(0).strip()}")
+                    continue
+                out.append(m.group(0))
+                continue
+            head, path = m.group(4), m.group(5)
+            if head not in places:
+                out.append(m.group(0))
+                continue
+            fields = path.split(".")[1:] if path else []
+            ups = 0
+            while ups < len(fields) and fields[ups] == "before":
+                ups += 1
+            spot = self.up(places[head], ups)
+            new = self.step(at, spot, fields[ups:]) if spot else fields
+            out.append(".".join(["c"] + new))
+        out.append(text[pos:])
+        # A test of `!b` is told by what b is now.
+        return re.sub(r"\(not-(?:true|false) (?:[^\s()]+|\([^()]*\)) (c\.if-not-[^\s()]*)\)", r"\1", "".join(out))
+
+
+def turned(path, names, crate, folder, said):
+    """The texts of Invariants.antt and Answers.antt."""
+    of = Function(names, said)
+    uses, answers, invariants, helpers = [], [], [], []
+    module = f"Rattle.{crate}.proofs.{folder.replace('/', '.')}"
+    with open(path, encoding="utf-8") as it:
+        text = it.read()
+    for block in blocks(text):
+        lines = block.split("\n")
+        comment = [x for x in lines if x.startswith("--")]
+        lines = [x for x in lines if not x.startswith("--")]
+        if not lines or not "".join(lines).strip():
+            continue
+        if lines[0].startswith("use "):
+            uses += [x for x in lines if x and not re.search(r"\.(Statement\.\{statement\}|Tie as tie)$", x)]
+            continue
+        head = re.match(r"(abbrev )?(?:pub )?([^\s:]+) :\s*(.*)", lines[0])
+        name, kind = head.group(2), head.group(3)
+        if name.endswith("-spec") or name.endswith("_spec"):
+            continue
+        if kind.startswith("tie.invariant-") or kind.startswith("tie.decreases-"):
+            what, loop = re.match(r"tie\.(invariant|decreases)-(\S+)", kind).groups()
+            at = next((i for i, it in enumerate(of.loops) if plain(it[0][0]) == plain(loop)), None)
+            if at is None:
+                said(f"loop {loop}")
+                continue
+            new = of.loops[at][0][1]
+            if what == "decreases" and not any(x.startswith(new + "-smaller") for x in of.asks):
+                continue
+            rest = "\n".join(lines[1:])
+            m = re.match(r"(\S+)((?:\s+[^\s=]+)*)\s+=\s*", rest)
+            variables, value = m.group(2).split(), rest[m.end() :]
+            known = set(of.loops[at][1])
+            for v in sorted(set(variables), key=len, reverse=True):
+                plainer = v.rstrip("₀")
+                to = ("l.initial." if v.endswith("₀") else "l.") + plainer
+                value = re.sub(rf"(?<![^\s(){{}}\[\];,]){re.escape(v)}(?![^\s(){{}}\[\];,.])", to, value)
+                if plainer not in known and to in value:
+                    said(f"variable {v} of {loop}")
+            invariants.append("\n".join(comment + [f"abbrev pub {what}-{new} : goal.{what}-{new}", f"{what}-{new} l = {value}"]))
+            continue
+        m = re.match(r"tie\.Need-(\S+)", kind)
+        if not m:
+            helpers.append(block)
+            said(f"helper {name}")
+            continue
+        old = plain(m.group(1))
+        need = of.needs.get(old) or of.needs.get(re.sub(r"^(overflow|nonzero)-", "", old))
+        rest = [x for x in lines[1:]]
+        opened = [x for x in rest if x.startswith("unfolding")]
+        rest = "\n".join(x for x in rest if not x.startswith("unfolding"))
+        d = re.match(r"(\S+)((?:\s+[^\s=]+)*)\s+=\s*", rest)
+        value = rest[d.end() :]
+        if PLAIN.fullmatch(value.strip()) and not opened:
+            continue
+        if not need:
+            if not PLAIN.fullmatch(value.strip()):
+                said(f"goal {m.group(1)}: {value.strip()[:60]}")
+            continue
+        new, at = need
+        answers.append("\n".join(comment + [f"pub {new} : goal.{new}"] + opened + [f"{new} c = {of.body(value, at)}"]))
+    used = lambda texts: [x for x in uses if relevant(x, "\n".join(texts))]
+    out = {}
+    if invariants:
+        out["Invariants.antt"] = "\n".join(used(invariants) + [f"use {module}.Given as goal"]) + "\n\n" + "\n\n".join(invariants) + "\n"
+    if answers or helpers:
+        out["Answers.antt"] = "\n".join(used(answers + helpers) + [f"use {module}.Goals as goal"]) + "\n\n" + "\n\n".join(helpers + answers) + "\n"
+    return out
+
+
+def relevant(use, text):
+    m = re.match(r"use \S+\.\{(.*)\}", use)
+    if not m:
+        last = use.split()[-1]
+        return last + "." in text or last in text
+    words = set(re.findall(r"[^\s(){}\[\];,.]+", text))
+    for name in m.group(1).split(", "):
+        if "◌" in name:
+            if name.strip("◌").strip() and name.replace("◌", "") in words or any(x in text for x in [name.replace("◌", "")]):
+                return True
+        elif name in words:
+            return True
+    return False
+
+
+def main(argv):
+    listed, crate, only = argv[0], argv[1], argv[2:]
+    with open(listed, encoding="utf-8") as it:
+        names = json.load(it)
+    top = os.path.join("crates", crate, "proofs")
+    for folder, _, found in sorted(os.walk(top)):
+        if "Proof.antt" not in found:
+            continue
+        inside = os.path.relpath(folder, top)
+        if only and inside.split("/")[-1] not in only:
+            continue
+        of = names.get(f"Rattle-{crate}-proofs.{inside.replace('/', '.')}.Lts")
+        if of is None:
+            print(f"{inside}: no names")
+            continue
+        path = os.path.join(folder, "Proof.antt")
+        out = turned(path, of, crate, inside, lambda text: print(f"{inside}: {text}"))
+        os.remove(path)
+        for name, text in out.items():
+            with open(os.path.join(folder, name), "w", encoding="utf-8") as it:
+                it.write(text)
+        if not os.listdir(folder):
+            os.rmdir(folder)
+    return 0
+
+
+if __name__ == "__main__":
+    raise SystemExit(main(sys.argv[1:]))
