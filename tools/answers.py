@@ -45,7 +45,8 @@ class Function:
         self.needs = {}
         for (old, new), (at, _) in zip(names["needs"], names["asked_at"]):
             self.needs.setdefault(plain(old), (new, at))
-        self.args = {tuple(a.replace(".", " ").split()): b.replace(".", " ").split() for a, b in names["args"]}
+        pairs = [(a.replace(".", " ").split(), b.replace(".", " ").split()) for a, b in names["args"]]
+        self.args = {tuple(a): b for a, b in pairs if len(a) == 2}
         self.loops = names["loops"]
         self.changed = names["changed"]
         self.asks = {new for _, new in names["needs"]}
@@ -113,6 +114,10 @@ class Function:
             new = self.step(at, spot, fields[ups:]) if spot else fields
             out.append(".".join(["c"] + new))
         out.append(text[pos:])
+        out = ["".join(out)]
+        for name in re.findall(r"let (\S+) = c\.args in", out[0]):
+            for (_, old), new in self.args.items():
+                out[0] = re.sub(rf"(?<![^\s(]){re.escape(name)}\.{re.escape(old)}(?![\w-])", f"{name}.{new[-1]}", out[0])
         # A test of `!b` is told by what b is now.
         return re.sub(r"\(not-(?:true|false) (?:[^\s()]+|\([^()]*\)) (c\.if-not-[^\s()]*)\)", r"\1", "".join(out))
 

@@ -1,0 +1,13 @@
+use Rattle.basics.specs.Parts.{table, joined}
+use Rattle.address.specs.Places.{place_at, byte_at}
+use Rattle.address.specs.Slices.{slice_at}
+use lib.ListN.{length, take, length-set}
+use mathlib.Core.Path.{◌≡◌, refl, ap, ◌∙◌}
+use Prim.Native.Nat.{ℕ, ◌≤◌, ◌-◌}
+use Rattle.sources.proofs.source.bare_slices.Given as goal
+
+abbrev pub invariant-loop-n : goal.invariant-loop-n
+invariant-loop-n l = (l.n ≤ 10) × (length l.slices ≡ 10) × (take l.n l.slices ≡ table (λ k. byte_at l.memory (place_at (slice_at l.c k l.z))) l.n)
+
+abbrev pub decreases-loop-n : goal.decreases-loop-n
+decreases-loop-n l = 10 - l.n
