@@ -38,7 +38,7 @@ def blocks(text):
 
 
 class Function:
-    def __init__(self, names, said):
+    def __init__(self, names, source, said):
         self.said = said
         self.place = {p[0]: (p[1], p[2], i) for i, p in enumerate(names["places"])}
         self.arms = names["arms"]
@@ -47,6 +47,9 @@ class Function:
             self.needs.setdefault(plain(old), (new, at))
         pairs = [(a.replace(".", " ").split(), b.replace(".", " ").split()) for a, b in names["args"]]
         self.args = {tuple(a): b for a, b in pairs if len(a) == 2}
+        self.params = names["params"]
+        self.source = source
+        self.callee = {p[0]: p[3] for p in names["places"]}
         self.loops = names["loops"]
         self.changed = names["changed"]
         self.asks = {new for _, new in names["needs"]}
@@ -64,7 +67,10 @@ class Function:
             return []
         if tuple(fields[:2]) in self.args:
             fields = self.args[tuple(fields[:2])] + fields[2:]
-        first = plain(fields[0])
+        first = plain(re.sub(r"_lem$", "", fields[0]))
+        if re.match(r"[A-Z]\w*-[A-Z]", first):
+            first = first.lower()
+        first = re.sub(r"^is-Is([A-Z])", lambda m: "is-" + m.group(1).lower(), first)
         if first in ("args", "requires", "ranges", "well-formed", "type-inv", "utf8"):
             return [first.replace("-", "_")] + fields[1:]
         # An arm has the tests on the way to it.
@@ -80,6 +86,8 @@ class Function:
         while spot is not None:
             parent, (old, new), _ = self.place[spot]
             if plain(old) == first:
+                if fields[1:2] == ["new"] and fields[2:] and fields[2].isdigit() and self.callee[spot] in self.params:
+                    fields = fields[:2] + [self.params[self.callee[spot]][int(fields[2])]] + fields[3:]
                 return [new] + fields[1:]
             spot = parent
         self.said(f"step {'.'.join(fields)} at {at}")
@@ -118,13 +126,21 @@ class Function:
         for name in re.findall(r"let (\S+) = c\.args in", out[0]):
             for (_, old), new in self.args.items():
                 out[0] = re.sub(rf"(?<![^\s(]){re.escape(name)}\.{re.escape(old)}(?![\w-])", f"{name}.{new[-1]}", out[0])
-        # A test of `!b` is told by what b is now.
-        return re.sub(r"\(not-(?:true|false) (?:[^\s()]+|\([^()]*\)) (c\.if-not-[^\s()]*)\)", r"\1", "".join(out))
+
+        # A test of `!b` is told by what b is now, but at a field it is told as it stands.
+        def told(m):
+            return m.group(0) if re.search(rf"!{m.group(2)}\.\w+\b(?!\()", self.source) else m.group(1)
+
+        arg = r"(?:[^\s()]+|\([^()]*\))"
+        test = r"(c\.if-not-([^\s().]*)[^\s()]*)"
+        text = re.sub(rf"\(not-(?:true|false) {arg} {test}\)", told, "".join(out))
+        return re.sub(rf"not-(?:true|false) {arg} {test}", told, text)
 
 
 def turned(path, names, crate, folder, said):
     """The texts of Invariants.antt and Answers.antt."""
-    of = Function(names, said)
+    sources = os.path.join("crates", crate, "src")
+    of = Function(names, "\n".join(open(os.path.join(sources, x), encoding="utf-8").read() for x in sorted(os.listdir(sources))), said)
     uses, answers, invariants, helpers = [], [], [], []
     module = f"Rattle.{crate}.proofs.{folder.replace('/', '.')}"
     with open(path, encoding="utf-8") as it:
@@ -202,7 +218,7 @@ def relevant(use, text):
         if "◌" in name:
             if name.strip("◌").strip() and name.replace("◌", "") in words or any(x in text for x in [name.replace("◌", "")]):
                 return True
-        elif name in words:
+        elif name in words or name == "[]" and "[]" in text:
             return True
     return False
 

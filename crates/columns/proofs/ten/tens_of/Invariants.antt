@@ -1,0 +1,10 @@
+use Rattle.columns.proofs.Columns.{CellsTo, cells_none, cells_one, cells_end}
+use Rattle.columns.specs.HowTens.{ten_at}
+use Prim.Native.Nat.{ℕ, ◌*◌, ◌≤◌, ◌-◌}
+use Rattle.columns.proofs.ten.tens_of.Given as goal
+
+abbrev pub invariant-loop-x : goal.invariant-loop-x
+invariant-loop-x l = (l.x ≤ 40) × CellsTo 10 (ten_at l.memory l.rom l.shown l.cells l.lowers l.rights) l.tens l.x
+
+abbrev pub decreases-loop-x : goal.decreases-loop-x
+decreases-loop-x l = 40 - l.x
