@@ -25,7 +25,7 @@ def blocks(text):
     """The declarations of a file: the lines of each, with the comment above it."""
     out, now = [], []
     for line in text.split("\n"):
-        starts = line[:1] not in ("", " ", "\t") and not line.startswith(("unfolding", "--"))
+        starts = line[:1] not in ("", " ", "\t", ")") and not line.startswith(("unfolding", "--"))
         if starts and now and not all(x.startswith("--") or not x for x in now):
             name = re.match(r"(?:abbrev |pub )*([^\s:]+)", line).group(1)
             first = next(x for x in now if x and not x.startswith("--"))
@@ -192,6 +192,9 @@ def turned(path, names, crate, folder, said):
         d = re.match(r"(\S+)((?:\s+[^\s=]+)*)\s+=\s*", rest)
         value = rest[d.end() :]
         if PLAIN.fullmatch(value.strip()) and not opened:
+            continue
+        if ".branch" in value:
+            said(f"branch in {m.group(1)}: {' '.join(value.split())[:200]}")
             continue
         if not need:
             if not PLAIN.fullmatch(value.strip()):
