@@ -1,0 +1,13 @@
+use lib.ListN.{length}
+use Prim.Native.Nat.{◌+◌, ◌≤◌, ◌-◌}
+use mathlib.Core.Path.{◌≡◌, refl}
+use Rattle.basics.specs.Below.{any_below}
+use Rattle.page.specs.HowCodes.{code_of}
+use Rattle.keys.specs.HowKeys.{keyed}
+use Rattle.asking.proofs.stretch.some_keyed.Given as goal
+
+abbrev pub invariant-loop-i : goal.invariant-loop-i
+invariant-loop-i l = (l.i ≤ l.n) × (l.c + l.n ≤ length l.memory) × (l.b + l.n ≤ length l.memory) × (l.found ≡ any_below (λ j. keyed l.keys (code_of l.memory l.z l.y (l.first + j))) l.i)
+
+abbrev pub decreases-loop-i : goal.decreases-loop-i
+decreases-loop-i l = l.n - l.i
