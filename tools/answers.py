@@ -86,7 +86,7 @@ class Function:
         while spot is not None:
             parent, (old, new), _ = self.place[spot]
             if plain(old) == first:
-                if fields[1:2] == ["new"] and fields[2:] and fields[2].isdigit() and self.callee[spot] in self.params:
+                if fields[1:2] in (["new"], ["auto"]) and fields[2:] and fields[2].isdigit() and self.callee[spot] in self.params:
                     fields = fields[:2] + [self.params[self.callee[spot]][int(fields[2])]] + fields[3:]
                 return [new] + fields[1:]
             spot = parent
@@ -97,6 +97,7 @@ class Function:
         """The answer's text with its paths turned. A name that was bound to a place alone is a place too."""
         places = {"c": at}
         bound = re.compile(r"let ([^\s:]+) = ([^\s(){}\[\];,.]+)((?:\.before)*) in\s*")
+        inner = {x for it in re.findall(r"λ ([^.]*)\.", text) for x in re.findall(r"[^\s():]+", it)}
         out, pos = [], 0
         token = re.compile(r"let ([^\s:]+) = ([^\s(){}\[\];,.]+)((?:\.before)*) in\s*|(?<![^\s(){}\[\];,])([^\s(){}\[\];,.]+)(" + PATH + r")?")
         for m in token.finditer(text):
@@ -111,7 +112,7 @@ class Function:
                 out.append(m.group(0))
                 continue
             head, path = m.group(4), m.group(5)
-            if head not in places:
+            if head not in places or not path and head in inner:
                 out.append(m.group(0))
                 continue
             fields = path.split(".")[1:] if path else []
@@ -129,12 +130,18 @@ class Function:
 
         # A test of `!b` is told by what b is now, but at a field it is told as it stands.
         def told(m):
-            return m.group(0) if re.search(rf"!{m.group(2)}\.\w+\b(?!\()", self.source) else m.group(1)
+            return m.group(0) if self.field(m.group(2)) else m.group(1)
 
         arg = r"(?:[^\s()]+|\([^()]*\))"
         test = r"(c\.if-not-([^\s().]*)[^\s()]*)"
-        text = re.sub(rf"\(not-(?:true|false) {arg} {test}\)", told, "".join(out))
-        return re.sub(rf"not-(?:true|false) {arg} {test}", told, text)
+        text = re.sub(rf"\(not-(?:true|false) {arg} {test}\)", lambda m: told(m).replace("if-not-", "if-not~"), "".join(out))
+        text = re.sub(rf"not-(?:true|false) {arg} {test}", lambda m: told(m).replace("if-not-", "if-not~"), text)
+        # Where the answer wants the test itself, it is made again of that.
+        text = re.sub(test, lambda m: m.group(0) if told(m) == m.group(0) and self.field(m.group(2)) else f"(ap not {m.group(0)})", text)
+        return text.replace("if-not~", "if-not-")
+
+    def field(self, name):
+        return re.search(rf"!{name}\.\w+\b(?!\()", self.source)
 
 
 def turned(path, names, crate, folder, said):
@@ -202,7 +209,14 @@ def turned(path, names, crate, folder, said):
             continue
         new, at = need
         answers.append("\n".join(comment + [f"pub {new} : goal.{new}"] + opened + [f"{new} c = {of.body(value, at)}"]))
-    used = lambda texts: [x for x in uses if relevant(x, "\n".join(texts))]
+    def used(texts):
+        out = [x for x in uses if relevant(x, "\n".join(texts))]
+        if "(ap not c." in "\n".join(texts):
+            for module, name in (("mathlib.Core.Bool", "not"), ("mathlib.Core.Path", "ap")):
+                if not any(re.search(rf"[{{ ]{name}[,}}]", x) for x in out):
+                    out.insert(0, f"use {module}.{{{name}}}")
+        return out
+
     out = {}
     if invariants:
         out["Invariants.antt"] = "\n".join(used(invariants) + [f"use {module}.Given as goal"]) + "\n\n" + "\n\n".join(invariants) + "\n"

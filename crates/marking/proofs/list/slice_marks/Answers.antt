@@ -1,0 +1,25 @@
+use lib.ListN.{length}
+use Prim.Native.Nat.{ℕ, ◌+◌, ◌*◌, ◌≤◌, ◌-◌}
+use mathlib.Core.Bool.{Bool}
+use mathlib.Core.Path.{◌≡◌, ap, ◌∙◌}
+use native.Mathlib.Omega.{arith}
+use Rattle.address.specs.Rows.{row_y}
+use Rattle.address.proofs.Laws.{row_small}
+use Rattle.asking.specs.HowAsked.{keyed_at}
+use Rattle.reading.proofs.Marking.{marked_long}
+use Rattle.marking.proofs.Loops.{up_to, begun_by_y, up_begins, up_ends, up_asked, up_left, up_end}
+use borrow.Author.Rules.{rules}
+use Rattle.marking.proofs.list.slice_marks.Goals as goal
+
+pub loop-g-init : goal.loop-g-init
+loop-g-init c = let s = c.args in
+    let k : ℕ → Bool = keyed_at s.keys s.memory.now s.z in
+    (omega arith, up_begins k s.marks.now (row_y s.yor) 8 _ (begun_by_y k s.marks.now _ s.yor c.service_marks.ensures))
+
+pub group_marks-requires : goal.group_marks-requires
+group_marks-requires c = (ap length c.loop-g.invariant.1 ∙ marked_long _ _, search rules, search rules, omega arith, omega arith, search rules)
+
+pub returns : goal.returns
+returns c = let s = c.args in
+    let k : ℕ → Bool = keyed_at s.keys s.memory.now s.z in
+    up_ends k s.marks.now (row_y s.yor) 8 _ (begun_by_y k s.marks.now _ s.yor c.service_marks.ensures) _ (up_end k _ (row_y s.yor) _ _ c.loop-g.invariant.1 (λ i h. omega (arith, row_small s.yor i)))

@@ -1,0 +1,29 @@
+use Rattle.picture.proofs.AnyRows.{DrawnTo, start, keep}
+use Rattle.picture.proofs.Redrawing.{rom_least, drew_eighty, eighty_end}
+use Rattle.eighty.specs.Rows.{eighty_row}
+use Rattle.shown.specs.Lengths.{eighty_bytes}
+use native.Mathlib.Omega.{arith}
+use Prim.Native.Nat.{◌-◌}
+use borrow.Author.Rules.{rules}
+use Rattle.picture.proofs.eighty_rows.redraw_eighty.Goals as goal
+
+pub loop-r-init : goal.loop-r-init
+loop-r-init c = start _ _ _ _ c.requires.0
+
+pub loop-r-preserved-then-not-marks-r : goal.loop-r-preserved-then-not-marks-r
+loop-r-preserved-then-not-marks-r c = let l = c.loop-r in
+    let a = c.args in
+    keep eighty_bytes _ _ (eighty_row a.memory.now a.rom.now a.shown) _ _ _ l.invariant c.loop-r-test.true c.if-not-marks-r.true
+
+pub draw_row-requires : goal.draw_row-requires
+draw_row-requires c = (search rules, omega (arith, c.requires.2, rom_least c.args.shown.part), c.inks_of-inks.ensures)
+
+pub loop-r-preserved : goal.loop-r-preserved
+loop-r-preserved c = let l = c.loop-r in
+    let a = c.args in
+    drew_eighty _ _ a.memory.now a.rom.now a.shown _ _ _ l.invariant c.loop-r-test.true c.if-not-marks-r.false _ c.draw_row.new.part
+    c.row_buffer-here.ensures c.draw_row.ensures c.draw_row.auto.part
+
+pub returns : goal.returns
+returns c = let l = c.loop-r in
+    eighty_end _ _ c.args.memory.now c.args.rom.now c.args.shown _ _ _ l.invariant c.requires.3 c.loop-r-test.false
