@@ -1,0 +1,13 @@
+use Prim.Native.Nat.{◌≤◌, ◌-◌}
+use mathlib.Core.Path.{◌≡◌, ap}
+use Rattle.address.specs.Rows.{row_y}
+use Rattle.page.specs.Marks.{marked_too}
+use Rattle.asking.specs.HowAsked.{pair_flash_at}
+use Rattle.marking.proofs.Loops.{below, below_start, below_turn, below_end}
+use Rattle.phases.proofs.phase.pair_flash_in.Given as goal
+
+abbrev pub invariant-loop-r : goal.invariant-loop-r
+invariant-loop-r l = (l.r ≤ 25) × (l.marks ≡ marked_too (below (λ k. pair_flash_at l.memory l.z (row_y l.yor k)) l.initial.marks l.r) l.initial.marks)
+
+abbrev pub decreases-loop-r : goal.decreases-loop-r
+decreases-loop-r l = 25 - l.r
