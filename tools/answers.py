@@ -54,15 +54,8 @@ class Function:
         self.changed = names["changed"]
         self.asks = {new for _, new in names["needs"]}
 
-    def up(self, at, n):
-        for _ in range(n):
-            if at is None or at not in self.place:
-                return None
-            at = self.place[at][0]
-        return at
-
-    def step(self, asked, at, fields):
-        """The new path, behind the `c` of the goal that is asked at a place, of the old fields behind a place before it."""
+    def step(self, asked, fields):
+        """The new path, behind the `c` of the goal that is asked at a place, of the old fields behind that place or one before it."""
         if not fields:
             return []
         if tuple(fields[:2]) in self.args:
@@ -82,7 +75,7 @@ class Function:
                 if plain(step) == first and fields[1 : 1 + len(path)] == path:
                     return [arm[0], field] + fields[1 + len(path) :]
             spot = parent
-        spot = at
+        spot = asked
         while spot is not None:
             parent, (old, new), _ = self.place[spot]
             if plain(old) == first:
@@ -90,13 +83,12 @@ class Function:
                     fields = fields[:2] + [self.params[self.callee[spot]][int(fields[2])]] + fields[3:]
                 return [new] + fields[1:]
             spot = parent
-        self.said(f"step {'.'.join(fields)} at {at}")
+        self.said(f"step {'.'.join(fields)} at {asked}")
         return fields
 
     def body(self, text, at):
         """The answer's text with its paths turned. A name that was bound to a place alone is a place too."""
-        places = {"c": at}
-        bound = re.compile(r"let ([^\s:]+) = ([^\s(){}\[\];,.]+)((?:\.before)*) in\s*")
+        places = {"c"}
         inner = {x for it in re.findall(r"λ ([^.]*)\.", text) for x in re.findall(r"[^\s():]+", it)}
         out, pos = [], 0
         token = re.compile(r"let ([^\s:]+) = ([^\s(){}\[\];,.]+)((?:\.before)*) in\s*|(?<![^\s(){}\[\];,])([^\s(){}\[\];,.]+)(" + PATH + r")?")
@@ -105,9 +97,7 @@ class Function:
             pos = m.end()
             if m.group(1):
                 if m.group(2) in places:
-                    places[m.group(1)] = self.up(places[m.group(2)], m.group(3).count(".before"))
-                    if places[m.group(1)] is None:
-                        self.said(f"place {m.group(0).strip()}")
+                    places.add(m.group(1))
                     continue
                 out.append(m.group(0))
                 continue
@@ -119,9 +109,7 @@ class Function:
             ups = 0
             while ups < len(fields) and fields[ups] == "before":
                 ups += 1
-            spot = self.up(places[head], ups)
-            new = self.step(at, spot, fields[ups:]) if spot else fields
-            out.append(".".join(["c"] + new))
+            out.append(".".join(["c"] + self.step(at, fields[ups:])))
         out.append(text[pos:])
         out = ["".join(out)]
         for name in re.findall(r"let (\S+) = c\.args in", out[0]):

@@ -1,0 +1,19 @@
+use Rattle.processor.proofs.Carrying.{either_astray}
+use mathlib.Core.Path.{sym, refl}
+use Rattle.address.proofs.Fits.{byte_illegal, code_illegal, narrow_illegal}
+use Rattle.processor.proofs.execute.is_astray.Goals as goal
+
+pub returns-in-Krf : goal.returns-in-Krf
+returns-in-Krf c = rw (c.in-Krf.is, c.is_legal.ensures, c.pointer.ensures) (sym (code_illegal _ _))
+
+pub returns-in-Oct : goal.returns-in-Oct
+returns-in-Oct c = rw (c.in-Oct.is, c.is_legal-in-Oct.ensures, c.pointer-in-Oct.ensures) (sym (byte_illegal _ _))
+
+pub returns-in-Krl : goal.returns-in-Krl
+returns-in-Krl c = rw (c.in-Krl.is, c.is_legal-in-Krl.ensures, c.pointer-in-Krl.ensures) (sym (narrow_illegal _ _))
+
+pub returns-in-Move : goal.returns-in-Move
+returns-in-Move c = let m = c.enum_told-in-Move-1.given in
+    let bytes = (rw m.1 at c.requires).0 in
+    rw (m.1, c.is_legal-in-Move-2.ensures, c.pointer-in-Move-2.ensures, c.is_legal-in-Move.ensures, c.pointer-in-Move.ensures)
+    (sym (either_astray _ m.0.1.0 m.0.1.1.0 c.args.p bytes))

@@ -1,0 +1,24 @@
+use Rattle.processor.proofs.Carrying.{placed}
+use mathlib.Core.Path.{sym, ◌∙◌}
+use Rattle.processor.proofs.Carrying.{both_astray, both_bare, moved_astray, moved_bare, moved_position}
+use Rattle.processor.proofs.step.move_on.Goals as goal
+
+pub returns-then-not-are_legal : goal.returns-then-not-are_legal
+returns-then-not-are_legal c = let a = c.args in
+    rw c.with_busy.ensures
+    (moved_astray a.bytes a.auxiliary a.stops _ c.requires.1 (sym c.are_legal.ensures ∙ c.if-not-are_legal.true))
+
+pub returns-then-are_bare : goal.returns-then-are_bare
+returns-then-are_bare c = let a = c.args in
+    rw c.with_busy-then-are_bare.ensures
+    (moved_bare a.bytes a.auxiliary a.stops _ c.requires.1 (sym c.are_legal.ensures ∙ c.if-not-are_legal.false) (sym c.are_bare.ensures ∙ c.if-are_bare.true))
+
+pub position-requires : goal.position-requires
+position-requires c = let a = c.args in
+    let f = placed a.bytes a.auxiliary a.stops a.p c.requires.1 (sym c.are_legal.ensures ∙ c.if-not-are_legal.false) (sym c.are_bare.ensures ∙ c.if-are_bare.false) in
+    (c.requires.0, c.requires.1, c.requires.2, f.0, f.1)
+
+pub returns : goal.returns
+returns c = let a = c.args in
+    c.position.ensures
+    ∙ moved_position a.bytes a.auxiliary a.stops _ c.requires.1 (sym c.are_legal.ensures ∙ c.if-not-are_legal.false) (sym c.are_bare.ensures ∙ c.if-are_bare.false)
