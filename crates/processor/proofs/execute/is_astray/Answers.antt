@@ -13,7 +13,6 @@ pub returns-in-Krl : goal.returns-in-Krl
 returns-in-Krl c = rw (c.in-Krl.is, c.is_legal-in-Krl.ensures, c.pointer-in-Krl.ensures) (sym (narrow_illegal _ _))
 
 pub returns-in-Move : goal.returns-in-Move
-returns-in-Move c = let m = c.enum_told-in-Move-1.given in
-    let bytes = (rw m.1 at c.requires).0 in
-    rw (m.1, c.is_legal-in-Move-2.ensures, c.pointer-in-Move-2.ensures, c.is_legal-in-Move.ensures, c.pointer-in-Move.ensures)
-    (sym (either_astray _ m.0.1.0 m.0.1.1.0 c.args.p bytes))
+returns-in-Move c = let bytes = (rw c.in-Move.is at c.requires).0 in
+    rw (c.in-Move.is, c.is_legal-in-Move-2.ensures, c.pointer-in-Move-2.ensures, c.is_legal-in-Move.ensures, c.pointer-in-Move.ensures)
+    (sym (either_astray _ c.in-Move.field-1 c.in-Move.field-2 c.args.p bytes))

@@ -18,7 +18,6 @@ returns-in-Krl c = let legal = not-false _ (sym (narrow_illegal _ _) ∙ rw c.in
     rw (c.in-Krl.is, c.is_narrow_fitted.ensures, c.pointer-in-Krl.ensures) (sym (narrow_bare _ _ legal))
 
 pub returns-in-Move : goal.returns-in-Move
-returns-in-Move c = let m = c.command-in-Move-1.given in
-    let bytes = (rw m.1 at c.requires.0).0 in
-    rw (m.1, c.is_bare-in-Move.ensures, c.pointer-in-Move-2.ensures, c.is_bare.ensures, c.pointer-in-Move.ensures)
-    (sym (both_bare _ m.0.1.0 m.0.1.1.0 c.args.p bytes (rw m.1 at c.requires.1)))
+returns-in-Move c = let bytes = (rw c.in-Move.is at c.requires.0).0 in
+    rw (c.in-Move.is, c.is_bare-in-Move.ensures, c.pointer-in-Move-2.ensures, c.is_bare.ensures, c.pointer-in-Move.ensures)
+    (sym (both_bare _ c.in-Move.field-1 c.in-Move.field-2 c.args.p bytes (rw c.in-Move.is at c.requires.1)))
