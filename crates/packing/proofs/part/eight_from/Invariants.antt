@@ -1,0 +1,11 @@
+use lib.ListN.{length-set, length, take}
+use Rattle.packing.proofs.Parts.{length_part, part_at_lem, taken_set, part}
+use mathlib.Core.Path.{◌≡◌, refl}
+use Prim.Native.Nat.{◌≤◌, ◌+◌, ◌-◌}
+use Rattle.packing.proofs.part.eight_from.Given as goal
+
+abbrev pub invariant-loop-i : goal.invariant-loop-i
+invariant-loop-i l = (l.i ≤ 8) × (length l.eight ≡ 8) × (take l.i l.eight ≡ take l.i (part l.start 8 l.bytes))
+
+abbrev pub decreases-loop-i : goal.decreases-loop-i
+decreases-loop-i l = 8 - l.i
