@@ -1,13 +1,14 @@
 // Reads pairs of an address and a value from standard input as writes, from power-up with zero memory, ROM and picture; then draws,
 // and prints the last write's number, the draw's number and the rows redrawn, and the first eight bytes of line 10 in hex. The picture is
 // that of 40 columns: in 80 columns the draw is refused with 6.
-ghost use Rattle.std.specs.Prelude.{◌≡◌, ◌/◌, length};
+ghost use Rattle.std.specs.Prelude.{◌≡◌, ◌/◌, ◌≤◌, length, IfOk};
 ghost use Rattle.panel.specs.Feeds.{feeding, fed_pairs};
 
 use board::MEMORY_BYTES;
-use libc::{STDIN_FILENO, STDOUT_FILENO};
 use processor::state::Processor;
 use shown::length::{PICTURE_BYTES, ROM_BYTES, ROW_BYTES};
+use std::io;
+use std::io::Read;
 
 // The state after some writes, and the number of the last one's answer.
 #[derive(Clone, Copy)]
@@ -36,58 +37,52 @@ fn feed(start: Fed, memory: &mut [u8], chunk: &[u8]) -> Fed
     state
 }
 
-// Whole standard input, by chunks of an even length. A proved loop has to end, so it counts its turns down from a number that no
-// run uses up.
-fn feed_all(start: Fed, memory: &mut [u8]) -> Fed {
+// How many bytes were read into the chunk: as many as it holds, or all that were left. A read that is not at the end gives one at least.
+fn read_full<R: Read>(input: &mut R, chunk: &mut [u8; 4096]) -> io::Result<usize>
+    ensures { IfOk result (λ n. n ≤ 4096) }
+{
+    let mut n = 0;
+    for _ in 0..4096 {
+        let got = input.read(&mut chunk[n..])?;
+        if got == 0 {
+            return Ok(n);
+        }
+        n += got;
+    }
+    Ok(n)
+}
+
+// Whole standard input, by chunks of an even length. A proved loop has to end, so it counts its turns up to a number that no run uses up.
+fn feed_all<R: Read>(start: Fed, memory: &mut [u8], input: &mut R) -> io::Result<Fed> {
     let mut now = start;
-    let mut turns = u64::MAX;
-    while turns > 0 {
-        let mut chunk = io::buffer();
-        let n = io::read_full(STDIN_FILENO, &mut chunk);
+    for _ in 0..u64::MAX {
+        let mut chunk = [0u8; 4096];
+        let n = read_full(input, &mut chunk)?;
         let next = feed(now, memory, &chunk[..n]);
         now = next;
         if n < 4096 {
-            return now;
+            return Ok(now);
         }
-        turns -= 1;
     }
-    now
+    Ok(now)
 }
 
-fn digit(n: u8) -> u8 {
-    let d = n % 16;
-    if d < 10 {
-        return b'0' + d;
-    }
-    b'A' + (d - 10)
-}
-
-// Two hex digits.
-fn print_byte(byte: u8) {
-    io::write_all(STDOUT_FILENO, &[digit(byte / 16), digit(byte)]);
-}
-
-// Eight bytes in hex, one space between.
-fn print_bytes(bytes: &[u8]) {
-    for i in 0..bytes.len() {
+// Bytes in hex, one space between.
+fn print_bytes(rt: &HostRuntime, bytes: &[u8]) -> io::Result<()> {
+    for (i, byte) in bytes.iter().enumerate() {
         if i != 0 {
-            io::write_all(STDOUT_FILENO, b" ");
+            print!(rt; " ")?;
         }
-        print_byte(bytes[i]);
+        print!(rt; "{byte:02X}")?;
     }
-    io::write_all(STDOUT_FILENO, b"\n");
+    println!(rt;)
 }
 
-fn print_numbers(last: u8, number: u8, rows: usize) {
-    io::print_decimal(STDOUT_FILENO, last as u64);
-    io::write_all(STDOUT_FILENO, b" ");
-    io::print_decimal(STDOUT_FILENO, number as u64);
-    io::write_all(STDOUT_FILENO, b" ");
-    io::print_decimal(STDOUT_FILENO, rows as u64);
-    io::write_all(STDOUT_FILENO, b"\n");
+fn print_numbers(rt: &HostRuntime, last: u8, number: u8, rows: usize) -> io::Result<()> {
+    println!(rt; "{last} {number} {rows}")
 }
 
-fn main() {
+fn main(rt: HostRuntime) -> io::Result<()> {
     let mut memory = [0u8; MEMORY_BYTES];
     let rom = [0u8; ROM_BYTES];
     let mut picture = [0u8; PICTURE_BYTES];
@@ -95,9 +90,9 @@ fn main() {
         processor: Processor::power_up(),
         last: 0,
     };
-    let end = feed_all(start, &mut memory);
+    let end = feed_all(start, &mut memory, &mut rt.reader())?;
     let drawn = end.processor.draw(&memory, &rom, &mut picture);
     let answer = drawn.answer;
-    print_numbers(end.last, answer.number(), answer.rows());
-    print_bytes(&picture[ROW_BYTES..ROW_BYTES + 8]);
+    print_numbers(&rt, end.last, answer.number(), answer.rows())?;
+    print_bytes(&rt, &picture[ROW_BYTES..ROW_BYTES + 8])
 }
