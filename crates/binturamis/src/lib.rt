@@ -1,4 +1,4 @@
-// The C interface: the processor's operations on 64 bytes that the caller keeps. Each unpacks the bytes, does the operation and packs
+// What the C interface does (crate `binturamis_c` hands it to C): the processor's operations on 64 bytes that the caller keeps. Each unpacks the bytes, does the operation and packs
 // what it leaves, so that any 64 bytes get an answer; those of a power-up or of an earlier call mean the processor that it left. Where
 // a refusal has changed nothing, nothing is written.
 ghost use Rattle.std.specs.Prelude.{◌≡◌};
@@ -28,16 +28,14 @@ use way::{unpacked_full, write_elsewhere, write_on_board};
 use word::power_word;
 
 // Power-up of an EF9345 with 16 blocks, whatever the bytes held.
-#[unsafe(no_mangle)]
-pub extern "C" fn binturamis_power_up(p: &mut [u8; 64])
+pub fn binturamis_power_up(p: &mut [u8; 64])
     ensures { p.new ≡ packed power_up }
 {
     *p = packed(Processor::power_up());
 }
 
 // Power-up of a board that the caller names, whatever the bytes held.
-#[unsafe(no_mangle)]
-pub extern "C" fn binturamis_power_up_board(p: &mut [u8; 64], part: u8, blocks: u8) -> u32
+pub fn binturamis_power_up_board(p: &mut [u8; 64], part: u8, blocks: u8) -> u32
     ensures { (p.new ≡ packed (powered_up_board part blocks).processor) × (result ≡ word (power_number_of (powered_up_board part blocks).answer) 0) }
 {
     let powered = Processor::power_up_board(part, blocks);
@@ -49,8 +47,7 @@ pub extern "C" fn binturamis_power_up_board(p: &mut [u8; 64], part: u8, blocks: 
 
 // A register is written; then the command runs, if the address asks for it. On 16 blocks while no move runs, with 0 for the board, a plain write stores
 // in place.
-#[unsafe(no_mangle)]
-pub extern "C" fn binturamis_write(
+pub fn binturamis_write(
     p: &mut [u8; 64],
     memory: &mut [u8],
     address: u8,
@@ -81,8 +78,7 @@ pub extern "C" fn binturamis_write(
 }
 
 // A register is read; then the command runs, if the address asks for it, and may store.
-#[unsafe(no_mangle)]
-pub extern "C" fn binturamis_read(p: &mut [u8; 64], memory: &mut [u8], address: u8) -> u32
+pub fn binturamis_read(p: &mut [u8; 64], memory: &mut [u8], address: u8) -> u32
     ensures { called p.new memory.new result ≡ call_of is_refusal p.old (read_out address (chip (unpacked p.old) memory.old)) }
 {
     let before = unpacked(*p);
@@ -95,8 +91,7 @@ pub extern "C" fn binturamis_read(p: &mut [u8; 64], memory: &mut [u8], address: 
 }
 
 // One character position of the move that runs; nothing where none does.
-#[unsafe(no_mangle)]
-pub extern "C" fn binturamis_step(p: &mut [u8; 64], memory: &mut [u8]) -> u32
+pub fn binturamis_step(p: &mut [u8; 64], memory: &mut [u8]) -> u32
     ensures { called p.new memory.new result ≡ call_of is_refusal p.old (stepped (chip (unpacked p.old) memory.old)) }
 {
     let answered = unpacked(*p).step(memory);
@@ -104,8 +99,7 @@ pub extern "C" fn binturamis_step(p: &mut [u8; 64], memory: &mut [u8]) -> u32
 }
 
 // The phase change.
-#[unsafe(no_mangle)]
-pub extern "C" fn binturamis_turn(p: &mut [u8; 64], memory: &[u8], phase: u8) -> u32
+pub fn binturamis_turn(p: &mut [u8; 64], memory: &[u8], phase: u8) -> u32
     ensures { called p.new memory.now result ≡ call_of is_refusal p.old (turned phase (chip (unpacked p.old) memory.now)) }
 {
     let answered = unpacked(*p).turn(memory, phase);
@@ -113,8 +107,7 @@ pub extern "C" fn binturamis_turn(p: &mut [u8; 64], memory: &[u8], phase: u8) ->
 }
 
 // The marked rows are redrawn and the marks cleared.
-#[unsafe(no_mangle)]
-pub extern "C" fn binturamis_draw(
+pub fn binturamis_draw(
     p: &mut [u8; 64],
     memory: &[u8],
     rom: &[u8],
@@ -127,8 +120,7 @@ pub extern "C" fn binturamis_draw(
 }
 
 // What the bytes hold, to be shown or compared. They stay as they are.
-#[unsafe(no_mangle)]
-pub extern "C" fn binturamis_state(p: &[u8; 64], out: &mut [u8; 48])
+pub fn binturamis_state(p: &[u8; 64], out: &mut [u8; 48])
     ensures { out.new ≡ reported (unpacked p.now) }
 {
     *out = reported(unpacked(*p));
