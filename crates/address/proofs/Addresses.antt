@@ -1,25 +1,23 @@
 -- Laws of the address answer: its three ways, what is read and listed at it, and that on a board of n blocks a byte past the last fitted block is
 -- 0 as memory has it.
 -- Assumes nothing.
-use Prim.Native.Nat.{ℕ, ◌+◌, ◌*◌, ◌≤◌, ◌<◌}
+use Prim.Native.Nat.{ℕ, ◌≤◌, ◌<◌}
 use mathlib.Core.Path.{◌≡◌, refl, sym, ap, ◌∙◌}
 use mathlib.Core.Bool.{Bool, true, false, not, ◌&&◌}
 use mathlib.Core.List.{List}
 use mathlib.Core.Logic.{⊎_elim}
 use native.Mathlib.Omega.{arith}
-use lib.Dec.{ltb, eqb}
+use lib.Dec.{eqb}
 use lib.ListN.{length, get_or-eq_default}
 use borrow.Author.Tests.{lt-ltb, le-ltb, ne_eqb}
 use Rattle.basics.specs.Choice.{pick}
 use Rattle.basics.proofs.Choice.{lt_or_le}
-use Rattle.address.specs.declared.answer.Address.{Address}
 use Rattle.address.specs.declared.answer.Address.TheVariants.{Illegal, NotFitted, Fitted}
 use Rattle.address.specs.declared.triple.Triple.{Triple}
 use Rattle.address.specs.Addresses.{address_of, is_illegal, is_not_fitted, byte_from, is_at}
 use Rattle.board.specs.Boards.{bytes_of}
 use Rattle.address.specs.Places.{place_of, place_at, byte_at}
-use Rattle.address.specs.Triples.{on_page, legal, fitted, legal_in}
-use Rattle.address.proofs.Laws.{legal_page, legal_block}
+use Rattle.address.specs.Triples.{on_page, legal, fitted}
 use Rattle.address.proofs.Places.{place_block, place_injective}
 
 module _ (n : ℕ) (t : Triple) where

@@ -1,4 +1,6 @@
 // Where a byte is kept: the board, pointers, legal triples, places, the address answer, what is fitted, 12-bit codes and screen rows.
+#![tactic(auto)]
+
 pub mod answer;
 pub mod byte;
 pub mod fitted;

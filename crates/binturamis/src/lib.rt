@@ -1,6 +1,8 @@
 // What the C interface does (crate `binturamis_c` hands it to C): the processor's operations on 64 bytes that the caller keeps. Each unpacks the bytes, does the operation and packs
 // what it leaves, so that any 64 bytes get an answer; those of a power-up or of an earlier call mean the processor that it left. Where
 // a refusal has changed nothing, nothing is written.
+#![tactic(auto)]
+
 ghost use Rattle.std.specs.Prelude.{◌≡◌};
 ghost use Rattle.command.specs.Answers.{power_number_of};
 ghost use Rattle.processor.specs.States.{chip, power_up};
@@ -47,12 +49,7 @@ pub fn binturamis_power_up_board(p: &mut [u8; 64], part: u8, blocks: u8) -> u32
 
 // A register is written; then the command runs, if the address asks for it. On 16 blocks while no move runs, with 0 for the board, a plain write stores
 // in place.
-pub fn binturamis_write(
-    p: &mut [u8; 64],
-    memory: &mut [u8],
-    address: u8,
-    value: u8,
-) -> u32
+pub fn binturamis_write(p: &mut [u8; 64], memory: &mut [u8], address: u8, value: u8) -> u32
     ensures { called p.new memory.new result ≡ call_of is_early p.old (written address value (chip (unpacked p.old) memory.old)) }
 {
     if memory.len() != MEMORY_BYTES {
@@ -107,12 +104,7 @@ pub fn binturamis_turn(p: &mut [u8; 64], memory: &[u8], phase: u8) -> u32
 }
 
 // The marked rows are redrawn and the marks cleared.
-pub fn binturamis_draw(
-    p: &mut [u8; 64],
-    memory: &[u8],
-    rom: &[u8],
-    picture: &mut [u8],
-) -> u32
+pub fn binturamis_draw(p: &mut [u8; 64], memory: &[u8], rom: &[u8], picture: &mut [u8]) -> u32
     ensures { draw_called p.new picture.new result ≡ draw_call_of p.old (drawn (unpacked p.old) memory.now rom.now picture.old) }
 {
     let drawn = unpacked(*p).draw(memory, rom, picture);

@@ -1,5 +1,6 @@
 // The C interface: the operations of crate `binturamis` under their names for C, each with the same promise. The header is
 // include/binturamis.h; a slice is handed over as its first byte and its length.
+#![tactic(auto)]
 
 ghost use Rattle.std.specs.Prelude.{◌≡◌};
 ghost use Rattle.command.specs.Answers.{power_number_of};

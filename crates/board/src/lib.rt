@@ -1,4 +1,6 @@
 // The board: its part, and how many blocks its private memory has, and so how many bytes.
+#![tactic(auto)]
+
 ghost use Rattle.std.specs.Prelude.{◌≡◌};
 ghost use Rattle.board.specs.Boards.{is_part, part_named, part_number, is_board, bytes_of};
 

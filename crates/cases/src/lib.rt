@@ -1,1 +1,3 @@
+#![tactic(auto)]
+
 // The page's twelve worked cases, proved together. No code.

@@ -4,7 +4,6 @@ use Prim.Native.Nat.{ℕ}
 use mathlib.Core.Path.{◌≡◌}
 use borrow.Author.Tests.{eq-eqb, ne_eqb}
 use Rattle.basics.specs.Bits.{bit}
-use Rattle.cell.specs.declared.kind.Resolution.{Resolution}
 use Rattle.cell.specs.declared.kind.Resolution.TheVariants.{High, Low}
 use Rattle.cell.specs.Cells.{resolution_of}
 

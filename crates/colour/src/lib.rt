@@ -1,4 +1,6 @@
 // The eight colours by name, packed pairs of them, and the palette of a quadrichrome cell.
+#![tactic(auto)]
+
 pub mod palette;
 
 ghost use Rattle.std.specs.Prelude.{◌≡◌};

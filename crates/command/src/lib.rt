@@ -1,4 +1,6 @@
 // The command that a byte names, and the answers by number.
+#![tactic(auto)]
+
 pub mod answer;
 pub mod held;
 pub mod moving;

@@ -1,2 +1,4 @@
 // The lower and the right halves of double cells.
+#![tactic(auto)]
+
 pub mod half;

@@ -7,11 +7,9 @@ use mathlib.Core.List.{List}
 use mathlib.Core.Logic.{⊎_elim}
 use lib.Dec.{eqb}
 use lib.ListN.{length}
-use Rattle.basics.specs.Choice.{pick}
 use Rattle.basics.proofs.Choice.{bool_cases, pick_either}
 use Rattle.board.specs.Boards.{is_part, part_named, is_board, bytes_of}
 use Rattle.board.specs.declared.Part.{Part}
-use Rattle.command.specs.Answers.{power_number_of}
 use Rattle.address.specs.declared.triple.Triple.{Triple}
 use Rattle.processor.specs.declared.state.Processor.{Processor}
 use Rattle.processor.specs.PowerUps.{powered_up_board}

@@ -23,7 +23,6 @@ use Rattle.sources.specs.declared.source.Source.TheVariants.{Rom, Block}
 use Rattle.halves.proofs.Halves.{half_same}
 use Rattle.rows.specs.Rows.{painted}
 use Rattle.eighty.specs.Rows.{eighty_lines}
-use Rattle.picture.specs.Rows.{row_of}
 use Rattle.picture.proofs.Rows.{row_eighty, row_forty}
 use Rattle.reading.specs.Lists.{source_holds, cell_holds, slices_hold, has_tall}
 use Rattle.reading.specs.Agreeing.{Agree, AgreeOnList}

@@ -19,7 +19,6 @@ use Rattle.board.specs.Boards.{bytes_of}
 use Rattle.board.specs.declared.Part.{Part}
 use Rattle.command.specs.declared.Command.{Command}
 use Rattle.command.specs.declared.Command.TheVariants.{Nop, Ind, Krf, Oct, Krl, Move, NotListed}
-use Rattle.command.specs.declared.answer.Answer.TheVariants as answer
 use Rattle.command.specs.Answers.{number_of, value_of}
 use Rattle.command.specs.Commands.{command_of, command_for}
 use Rattle.command.specs.Held.{is_read_held, is_write_held}

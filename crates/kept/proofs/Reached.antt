@@ -9,7 +9,7 @@ use native.Mathlib.Omega.{arith}
 use lib.ListN.{length, replicate, length-replicate, length-set}
 use Rattle.basics.specs.Parts.{joined}
 use Rattle.address.specs.Addresses.{address_of}
-use Rattle.board.specs.Boards.{is_board, full_board, bytes_of}
+use Rattle.board.specs.Boards.{full_board, bytes_of}
 use Rattle.board.specs.declared.Part.{Part}
 use Rattle.board.specs.declared.Part.TheVariants.{Ef9345}
 use Rattle.address.specs.Places.{place_of}

@@ -1,6 +1,8 @@
 // Reads pairs of an address and a value from standard input as writes, from power-up with zero memory, ROM and picture; then draws,
 // and prints the last write's number, the draw's number and the rows redrawn, and the first eight bytes of line 10 in hex. The picture is
 // that of 40 columns: in 80 columns the draw is refused with 6.
+#![tactic(auto)]
+
 ghost use Rattle.std.specs.Prelude.{◌≡◌, ◌/◌, ◌≤◌, length, IfOk};
 ghost use Rattle.panel.specs.Feeds.{feeding, fed_pairs};
 

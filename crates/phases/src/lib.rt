@@ -1,3 +1,5 @@
 // The rows that a phase change marks.
+#![tactic(auto)]
+
 pub mod bare;
 pub mod phase;

@@ -12,9 +12,7 @@ use lib.Seq.{get_or-set_same, get_or-set_other, set-set}
 use borrow.Author.Tests.{not-false, lt-ltb}
 use Rattle.basics.specs.Below.{any_below}
 use Rattle.basics.specs.Bits.{is_set}
-use Rattle.basics.specs.Choice.{pick}
 use Rattle.basics.proofs.Choice.{or_none, or_neither, pick_same, eq_or_ne}
-use Rattle.board.specs.Boards.{bytes_of}
 use Rattle.address.specs.Addresses.{is_illegal, is_not_fitted, some_address}
 use Rattle.address.specs.Places.{place_at, block_at, byte_at, loaded}
 use Rattle.address.specs.Triples.{legal, legal_in}

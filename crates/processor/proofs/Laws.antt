@@ -9,9 +9,6 @@ use lib.Dec.{eqb}
 use lib.Seq.{get_or-set_other}
 use borrow.Author.Tests.{eq-eqb, ne_eqb}
 use Rattle.basics.specs.Bits.{bits, is_set}
-use Rattle.board.specs.declared.Part.{Part}
-use Rattle.board.specs.declared.Part.TheVariants.{Ef9345, Ts9347}
-use Rattle.address.specs.Pointers.{main_pointer, auxiliary_pointer}
 use Rattle.address.specs.declared.triple.Triple.{Triple}
 use Rattle.moves.specs.Onward.{next_x}
 use Rattle.moves.proofs.Going.{next_last, next_more}

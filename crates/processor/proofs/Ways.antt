@@ -4,13 +4,12 @@ use Prim.Native.Nat.{ℕ, ◌+◌, ◌*◌, ◌/◌, ◌<◌, ◌≤◌}
 use mathlib.Core.Path.{◌≡◌, refl, sym, ap, ◌∙◌}
 use mathlib.Core.Bool.{Bool, true, false, not, ◌&&◌, ◌||◌, false≢true}
 use mathlib.Core.List.{List}
-use mathlib.Core.Logic.{⊎_elim}
 use native.Mathlib.Omega.{arith}
-use lib.Dec.{ltb, leb, eqb}
+use lib.Dec.{eqb}
 use lib.ListN.{length, get_or, set}
-use borrow.Author.Tests.{eq-eqb, ne_eqb, lt-ltb, le-ltb, le-leb, lt-leb, eqb-true, not-false}
+use borrow.Author.Tests.{eq-eqb, ne_eqb, le-leb, lt-leb, eqb-true, not-false}
 use Rattle.basics.specs.Bits.{bits}
-use Rattle.basics.proofs.Choice.{lt_or_le, or_neither}
+use Rattle.basics.proofs.Choice.{or_neither}
 use Rattle.basics.specs.Choice.{pick}
 use Rattle.board.specs.Boards.{bytes_of}
 use Rattle.address.specs.Narrow.{is_odd, attributes_at, nibble_into}

@@ -1,6 +1,6 @@
 -- A step of a move.
 -- Assumes nothing.
-use Rattle.std.specs.Prelude.{ℕ, zero, suc, Bool, true, false, not, ◌&&◌, ◌||◌}
+use Rattle.std.specs.Prelude.{ℕ, zero, suc, Bool, not, ◌||◌}
 use Rattle.basics.specs.Choice.{pick}
 use Rattle.address.specs.Places.{block_at, loaded}
 use Rattle.address.specs.declared.triple.Triple.{Triple}

@@ -1,4 +1,6 @@
 // The processor: power-up, registers and commands, steps of a move, the phase and the draw. Its state is handed on as a value.
+#![tactic(auto)]
+
 pub mod access;
 pub mod byte;
 pub mod carry;

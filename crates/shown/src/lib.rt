@@ -1,4 +1,6 @@
 // What a page is drawn by: the indirect registers, the phase and the board as one record, and what is said of it alone.
+#![tactic(auto)]
+
 pub mod length;
 
 ghost use Rattle.std.specs.Prelude.{◌≡◌, eqb};

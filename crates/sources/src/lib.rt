@@ -1,2 +1,4 @@
 // Where a cell's slices come from, and the ten of them.
+#![tactic(auto)]
+
 pub mod source;

@@ -15,12 +15,10 @@ pub returns-in-135 : goal.returns-in-135
 unfolding command_of
 returns-in-135 c = rw c.in-135.is refl
 
-
 -- src/lib.rt:24:1
 pub returns-in-143 : goal.returns-in-143
 unfolding command_of
 returns-in-143 c = rw c.in-143.is refl
-
 
 pub returns-in-0-to-1 : goal.returns-in-0-to-1
 unfolding command_of

@@ -1,8 +1,7 @@
 use Rattle.panel.proofs.Turns.{feed_turn}
 use Rattle.panel.specs.Feeds.{feeding, fed_pairs}
 use native.Mathlib.Omega.{arith}
-use mathlib.Core.Path.{◌≡◌, refl, ap, ◌∙◌}
-use Prim.Native.Nat.{◌≤◌, ◌-◌}
+use mathlib.Core.Path.{refl, ap, ◌∙◌}
 use borrow.Author.Rules.{rules}
 use Rattle.panel.proofs.feed.Goals as goal
 

@@ -1,6 +1,6 @@
 use Rattle.panel.specs.Feeds.{feeding, fed_pairs}
 use lib.ListN.{length}
-use mathlib.Core.Path.{◌≡◌, refl, ap, ◌∙◌}
+use mathlib.Core.Path.{◌≡◌}
 use Prim.Native.Nat.{◌≤◌, ◌-◌}
 use Rattle.panel.proofs.feed.Given as goal
 

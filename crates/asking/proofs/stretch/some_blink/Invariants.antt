@@ -1,6 +1,6 @@
 use lib.ListN.{length}
 use Prim.Native.Nat.{◌+◌, ◌≤◌, ◌-◌}
-use mathlib.Core.Path.{◌≡◌, refl}
+use mathlib.Core.Path.{◌≡◌}
 use Rattle.basics.specs.Below.{any_below}
 use Rattle.asking.specs.HowAsked.{blinks, code_from}
 use Rattle.asking.proofs.stretch.some_blink.Given as goal

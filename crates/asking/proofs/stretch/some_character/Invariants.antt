@@ -1,9 +1,8 @@
 use lib.ListN.{length}
 use Prim.Native.Nat.{◌+◌, ◌≤◌, ◌-◌}
-use mathlib.Core.Path.{◌≡◌, refl, ◌∙◌}
+use mathlib.Core.Path.{◌≡◌}
 use Rattle.basics.specs.Below.{any_below}
 use lib.Dec.{leb}
-use Rattle.basics.proofs.Below.{gathered, gathered_end}
 use Rattle.asking.specs.HowAsked.{shows_character, code_from}
 use Rattle.asking.proofs.stretch.some_character.Given as goal
 

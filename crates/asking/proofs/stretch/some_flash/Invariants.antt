@@ -1,6 +1,6 @@
 use lib.ListN.{length}
 use Prim.Native.Nat.{◌+◌, ◌≤◌, ◌-◌}
-use mathlib.Core.Path.{◌≡◌, refl, ap, ◌∙◌}
+use mathlib.Core.Path.{◌≡◌}
 use Rattle.basics.specs.Below.{any_below}
 use Rattle.board.specs.declared.Part.TheVariants.{Ef9345}
 use Rattle.page.specs.HowCodes.{code_of}

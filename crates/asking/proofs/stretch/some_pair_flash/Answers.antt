@@ -1,9 +1,9 @@
-use Prim.Native.Nat.{◌+◌, ◌≤◌, ◌-◌}
-use mathlib.Core.Path.{◌≡◌, refl, ap, ◌∙◌}
+use Prim.Native.Nat.{◌+◌}
+use mathlib.Core.Path.{refl, ap, ◌∙◌}
 use native.Mathlib.Omega.{arith}
 use Rattle.basics.specs.Below.{any_below}
 use Rattle.basics.proofs.Below.{gathered, gathered_end}
-use Rattle.page.specs.HowHalves.{Within, stretch_code}
+use Rattle.page.specs.HowHalves.{stretch_code}
 use Rattle.page.proofs.Stretches.{starts_fit, code_from_lem}
 use Rattle.narrow.specs.Codes.{pair_flashes}
 use Rattle.asking.proofs.Rows.{pair_test}

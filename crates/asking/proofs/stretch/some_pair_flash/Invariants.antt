@@ -1,8 +1,8 @@
 use Prim.Native.Nat.{◌+◌, ◌≤◌, ◌-◌}
-use mathlib.Core.Path.{◌≡◌, refl, ap, ◌∙◌}
+use mathlib.Core.Path.{◌≡◌}
 use Rattle.basics.specs.Below.{any_below}
 use Rattle.page.specs.HowCodes.{code_of}
-use Rattle.page.specs.HowHalves.{Within, stretch_code}
+use Rattle.page.specs.HowHalves.{Within}
 use Rattle.narrow.specs.Codes.{pair_flashes}
 use Rattle.asking.proofs.stretch.some_pair_flash.Given as goal
 

@@ -1,6 +1,6 @@
-use Rattle.colour.proofs.Pass.{found, found_none, found_more, found_past, found_without, found_all}
-use mathlib.Core.Path.{◌≡◌, sym, ap, ◌∙◌}
-use Prim.Native.Nat.{◌-◌, ◌≤◌}
+use Rattle.colour.proofs.Pass.{found}
+use mathlib.Core.Path.{◌≡◌}
+use Prim.Native.Nat.{◌≤◌}
 use Rattle.colour.proofs.palette.by_rank.Given as goal
 
 abbrev pub invariant-loop-k : goal.invariant-loop-k

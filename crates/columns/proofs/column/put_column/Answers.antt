@@ -1,7 +1,6 @@
-use Rattle.columns.proofs.Columns.{PutTo, put_none, put_one, put_end}
+use Rattle.columns.proofs.Columns.{put_none, put_one, put_end}
 use native.Mathlib.Omega.{arith}
-use mathlib.Core.Path.{◌≡◌, refl}
-use Prim.Native.Nat.{◌≤◌, ◌-◌}
+use mathlib.Core.Path.{refl}
 use Rattle.columns.proofs.column.put_column.Goals as goal
 
 pub loop-n-init : goal.loop-n-init

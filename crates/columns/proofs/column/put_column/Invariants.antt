@@ -1,6 +1,6 @@
-use Rattle.columns.proofs.Columns.{PutTo, put_none, put_one, put_end}
+use Rattle.columns.proofs.Columns.{PutTo}
 use lib.ListN.{length}
-use mathlib.Core.Path.{◌≡◌, refl}
+use mathlib.Core.Path.{◌≡◌}
 use Prim.Native.Nat.{◌≤◌, ◌-◌}
 use Rattle.columns.proofs.column.put_column.Given as goal
 

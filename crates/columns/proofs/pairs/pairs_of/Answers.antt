@@ -1,8 +1,7 @@
-use Rattle.columns.proofs.Columns.{CellsTo, cells_none, cells_one, cells_end}
+use Rattle.columns.proofs.Columns.{cells_none, cells_one, cells_end}
 use Rattle.columns.specs.HowTens.{pairs_at}
 use native.Mathlib.Omega.{arith}
 use mathlib.Core.Path.{refl}
-use Prim.Native.Nat.{◌≤◌, ◌-◌}
 use borrow.Author.Rules.{rules}
 use Rattle.columns.proofs.pairs.pairs_of.Goals as goal
 

@@ -1,4 +1,4 @@
-use Rattle.columns.proofs.Columns.{CellsTo, cells_none, cells_one, cells_end}
+use Rattle.columns.proofs.Columns.{CellsTo}
 use Rattle.columns.specs.HowTens.{pairs_at}
 use Prim.Native.Nat.{◌≤◌, ◌-◌}
 use Rattle.columns.proofs.pairs.pairs_of.Given as goal

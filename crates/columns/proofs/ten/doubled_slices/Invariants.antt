@@ -1,7 +1,7 @@
 use Rattle.columns.specs.HowTens.{doubled_of}
-use Rattle.basics.specs.Parts.{table, joined}
-use lib.ListN.{length, take, length-set}
-use mathlib.Core.Path.{◌≡◌, refl}
+use Rattle.basics.specs.Parts.{table}
+use lib.ListN.{length, take}
+use mathlib.Core.Path.{◌≡◌}
 use Prim.Native.Nat.{◌≤◌, ◌-◌}
 use Rattle.columns.proofs.ten.doubled_slices.Given as goal
 

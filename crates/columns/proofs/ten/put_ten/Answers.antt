@@ -4,7 +4,7 @@ use lib.ListN.{get_or, take, drop}
 use Rattle.page.specs.Inputs.{decoded}
 use Rattle.columns.specs.HowTens.{ten_of}
 use native.Mathlib.Omega.{arith}
-use Rattle.columns.proofs.PlainCells.{start_fits, start_small, plain_ten, put_plain, ten_long}
+use Rattle.columns.proofs.PlainCells.{start_small, plain_ten, put_plain, ten_long}
 use Rattle.columns.proofs.ten.put_ten.Goals as goal
 
 pub overflow_add-first : goal.overflow_add-first

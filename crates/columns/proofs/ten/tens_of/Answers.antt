@@ -1,8 +1,8 @@
-use Rattle.columns.proofs.Columns.{CellsTo, cells_none, cells_one, cells_end}
+use Rattle.columns.proofs.Columns.{cells_none, cells_one, cells_end}
 use Rattle.columns.specs.HowTens.{ten_at}
 use native.Mathlib.Omega.{arith}
 use mathlib.Core.Path.{refl, sym, ap, ◌∙◌}
-use Prim.Native.Nat.{ℕ, ◌*◌, ◌≤◌, ◌-◌}
+use Prim.Native.Nat.{ℕ, ◌*◌}
 use Rattle.basics.specs.Parts.{table}
 use Rattle.columns.specs.HowColumns.{put_at}
 use Rattle.columns.proofs.PlainCells.{ten_long}

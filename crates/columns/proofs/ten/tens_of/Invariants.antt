@@ -1,6 +1,6 @@
-use Rattle.columns.proofs.Columns.{CellsTo, cells_none, cells_one, cells_end}
+use Rattle.columns.proofs.Columns.{CellsTo}
 use Rattle.columns.specs.HowTens.{ten_at}
-use Prim.Native.Nat.{ℕ, ◌*◌, ◌≤◌, ◌-◌}
+use Prim.Native.Nat.{◌≤◌, ◌-◌}
 use Rattle.columns.proofs.ten.tens_of.Given as goal
 
 abbrev pub invariant-loop-x : goal.invariant-loop-x

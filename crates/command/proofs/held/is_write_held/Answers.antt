@@ -1,5 +1,4 @@
 use Rattle.command.proofs.Holding.{held_lower, held_below, held_above}
-use borrow.Author.Tests.{not-true, not-false}
 use Rattle.command.proofs.held.is_write_held.Goals as goal
 
 pub returns-then-not-busy : goal.returns-then-not-busy

@@ -1,10 +1,9 @@
 use Rattle.shown.specs.Lengths.{eighty_bytes, line_bytes}
 use lib.ListN.{length}
 use Rattle.basics.proofs.Filled.{copy_set, copy_end}
-use lib.ListN.{length, take, length-set}
+use lib.ListN.{length, length-set}
 use native.Mathlib.Omega.{arith}
 use mathlib.Core.Path.{◌≡◌, refl}
-use Prim.Native.Nat.{◌≤◌, ◌-◌}
 use borrow.Author.Rules.{rules}
 use Rattle.eighty.proofs.line.copy_line.Goals as goal
 

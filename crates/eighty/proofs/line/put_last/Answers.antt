@@ -1,10 +1,9 @@
 use Rattle.eighty.proofs.Lines.{three_put}
-use Rattle.eighty.specs.HowEighty.{three_on, eighty_line_on}
+use Rattle.eighty.specs.HowEighty.{eighty_line_on}
 use Rattle.basics.proofs.Filled.{front_end}
-use lib.ListN.{length, take, length-set}
+use lib.ListN.{length-set}
 use native.Mathlib.Omega.{arith}
-use mathlib.Core.Path.{◌≡◌, refl}
-use Prim.Native.Nat.{◌≤◌, ◌-◌, ◌*◌}
+use mathlib.Core.Path.{refl}
 use Rattle.eighty.proofs.line.put_last.Goals as goal
 
 pub loop-p-init : goal.loop-p-init

@@ -1,9 +1,8 @@
 use Rattle.eighty.proofs.Lines.{four_put, most_end}
 use Rattle.basics.proofs.Filled.{front_none}
-use lib.ListN.{length, take, length-set}
+use lib.ListN.{length-set}
 use native.Mathlib.Omega.{arith}
-use mathlib.Core.Path.{◌≡◌, refl}
-use Prim.Native.Nat.{◌≤◌, ◌-◌, ◌*◌}
+use mathlib.Core.Path.{refl}
 use Rattle.eighty.proofs.line.put_most.Goals as goal
 
 pub loop-p-init : goal.loop-p-init

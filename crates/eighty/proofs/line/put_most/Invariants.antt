@@ -1,8 +1,8 @@
 use Rattle.eighty.specs.HowEighty.{three_on}
 use Rattle.shown.specs.Lengths.{eighty_bytes, line_bytes}
 use Rattle.basics.specs.Parts.{joined}
-use lib.ListN.{length, take, length-set}
-use mathlib.Core.Path.{◌≡◌, refl}
+use lib.ListN.{length, take}
+use mathlib.Core.Path.{◌≡◌}
 use Prim.Native.Nat.{◌≤◌, ◌-◌, ◌*◌}
 use Rattle.eighty.proofs.line.put_most.Given as goal
 

@@ -1,8 +1,7 @@
 use Rattle.eighty.proofs.Lines.{eighty_on_long}
-use Rattle.shown.proofs.Lines.{LinesTo, no_lines, line_drawn, all_lines}
+use Rattle.shown.proofs.Lines.{no_lines, line_drawn, all_lines}
 use Rattle.shown.specs.Lengths.{eighty_bytes}
 use native.Mathlib.Omega.{arith}
-use Prim.Native.Nat.{◌-◌}
 use borrow.Author.Rules.{rules}
 use Rattle.eighty.proofs.row.draw_lines.Goals as goal
 

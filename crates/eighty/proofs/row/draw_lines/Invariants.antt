@@ -1,5 +1,5 @@
 use Rattle.eighty.specs.HowEighty.{eighty_line_on}
-use Rattle.shown.proofs.Lines.{LinesTo, no_lines, line_drawn, all_lines}
+use Rattle.shown.proofs.Lines.{LinesTo}
 use Rattle.shown.specs.Lengths.{eighty_bytes}
 use Prim.Native.Nat.{◌-◌}
 use Rattle.eighty.proofs.row.draw_lines.Given as goal

@@ -1,8 +1,7 @@
 use Rattle.basics.proofs.Filled.{copy_set, copy_end}
-use lib.ListN.{length, take, length-set}
+use lib.ListN.{length, length-set}
 use native.Mathlib.Omega.{arith}
 use mathlib.Core.Path.{◌≡◌, refl}
-use Prim.Native.Nat.{◌≤◌, ◌-◌}
 use borrow.Author.Rules.{rules}
 use Rattle.eighty.proofs.ten.put_ten.Goals as goal
 

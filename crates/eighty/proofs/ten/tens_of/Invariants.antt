@@ -1,8 +1,8 @@
-use Rattle.eighty.specs.HowEighty.{pair_tens, eighty_tens}
+use Rattle.eighty.specs.HowEighty.{pair_tens}
 use Rattle.basics.specs.Parts.{joined}
 use lib.ListN.{length, get_or, take}
 use mathlib.Core.List.{[]}
-use mathlib.Core.Path.{◌≡◌, refl}
+use mathlib.Core.Path.{◌≡◌}
 use Prim.Native.Nat.{◌≤◌, ◌-◌, ◌*◌}
 use Rattle.eighty.proofs.ten.tens_of.Given as goal
 

@@ -1,12 +1,12 @@
 use Rattle.basics.proofs.Filled.{filled, filled_front, filled_next}
-use Rattle.page.specs.HowHalves.{Within, next_lower_in}
+use Rattle.page.specs.HowHalves.{next_lower_in}
 use Rattle.page.proofs.Stretches.{compared_fit, compared_on, within_less}
-use lib.ListN.{length, get_or, length-set}
+use lib.ListN.{get_or, length-set}
 use native.Mathlib.Omega.{arith}
 use mathlib.Core.Bool.{Bool, false, not, ◌&&◌}
 use mathlib.Core.List.{[], ◌∷◌}
 use mathlib.Core.Path.{◌≡◌, ap, ◌∙◌}
-use Prim.Native.Nat.{◌+◌, ◌≤◌, ◌-◌}
+use Prim.Native.Nat.{◌+◌}
 use borrow.Author.Rules.{rules}
 use Rattle.halves.proofs.half.next_in.Goals as goal
 

@@ -1,8 +1,8 @@
-use Rattle.basics.proofs.Filled.{filled, filled_front, filled_next}
+use Rattle.basics.proofs.Filled.{filled}
 use Rattle.page.specs.HowHalves.{Within, next_lower_in}
-use lib.ListN.{length, get_or, length-set}
+use lib.ListN.{length}
 use mathlib.Core.List.{[], ◌∷◌}
-use mathlib.Core.Path.{◌≡◌, ap, ◌∙◌}
+use mathlib.Core.Path.{◌≡◌}
 use Prim.Native.Nat.{◌+◌, ◌≤◌, ◌-◌}
 use Rattle.halves.proofs.half.next_in.Given as goal
 

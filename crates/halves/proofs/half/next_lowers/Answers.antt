@@ -1,4 +1,3 @@
-use borrow.Author.Tests.{not-true, not-false}
 use Rattle.basics.specs.Parts.{joined}
 use mathlib.Core.Bool.{false}
 use lib.ListN.{replicate}

@@ -1,4 +1,3 @@
-use borrow.Author.Tests.{not-true, not-false}
 use Rattle.basics.specs.Parts.{joined}
 use Rattle.halves.proofs.Halves.{right_none, right_bare}
 use Rattle.page.proofs.Codes.{has_block}

@@ -1,4 +1,3 @@
-use borrow.Author.Tests.{not-true, not-false}
 use Rattle.address.proofs.Laws.{row_small}
 use Rattle.halves.proofs.Halves.{compared, on_bare, on_rows}
 use Rattle.page.proofs.Stretches.{row_stretches}

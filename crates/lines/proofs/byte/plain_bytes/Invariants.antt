@@ -1,7 +1,7 @@
 use Rattle.columns.specs.HowColumns.{byte_in}
-use Rattle.basics.specs.Parts.{table, joined}
-use lib.ListN.{length, take, length-set}
-use mathlib.Core.Path.{◌≡◌, refl}
+use Rattle.basics.specs.Parts.{table}
+use lib.ListN.{length, take}
+use mathlib.Core.Path.{◌≡◌}
 use Prim.Native.Nat.{◌≤◌, ◌-◌}
 use Rattle.lines.proofs.byte.plain_bytes.Given as goal
 

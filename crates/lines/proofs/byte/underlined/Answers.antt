@@ -1,9 +1,8 @@
 use Rattle.basics.proofs.Filled.{table_set, table_end}
-use Rattle.basics.specs.Parts.{table, joined}
-use lib.ListN.{length, take, length-set}
+use Rattle.basics.specs.Parts.{joined}
+use lib.ListN.{length-set}
 use native.Mathlib.Omega.{arith}
-use mathlib.Core.Path.{◌≡◌, refl}
-use Prim.Native.Nat.{◌≤◌, ◌-◌}
+use mathlib.Core.Path.{refl}
 use Rattle.lines.proofs.byte.underlined.Goals as goal
 
 pub loop-x-init : goal.loop-x-init

@@ -1,11 +1,11 @@
-use Rattle.shown.specs.Lengths.{forty_bytes, line_bytes}
+use Rattle.shown.specs.Lengths.{forty_bytes}
 use Rattle.pixels.proofs.Drawn.{four_long}
 use Rattle.basics.proofs.Filled.{filled, filled_four}
-use lib.ListN.{length, drop, length-set, take-append-drop}
+use lib.ListN.{drop, length-set, take-append-drop}
 use native.Mathlib.Omega.{arith}
 use mathlib.Core.Path.{◌≡◌, sym, ap, ◌∙◌}
 use mathlib.Core.List.{List, ◌++◌}
-use Prim.Native.Nat.{ℕ, ◌*◌, ◌-◌, ◌≤◌}
+use Prim.Native.Nat.{ℕ, ◌*◌}
 use Rattle.lines.proofs.pack.pack.Goals as goal
 
 pub loop-x-init : goal.loop-x-init

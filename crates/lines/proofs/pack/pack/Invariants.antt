@@ -1,9 +1,9 @@
 use Rattle.shown.specs.Lengths.{forty_bytes, line_bytes}
 use Rattle.lines.specs.HowLines.{four_of}
-use Rattle.basics.proofs.Filled.{filled, filled_four}
-use lib.ListN.{length, drop, length-set, take-append-drop}
-use mathlib.Core.Path.{◌≡◌, sym, ap, ◌∙◌}
-use Prim.Native.Nat.{ℕ, ◌*◌, ◌-◌, ◌≤◌}
+use Rattle.basics.proofs.Filled.{filled}
+use lib.ListN.{length}
+use mathlib.Core.Path.{◌≡◌}
+use Prim.Native.Nat.{◌-◌, ◌≤◌}
 use Rattle.lines.proofs.pack.pack.Given as goal
 
 abbrev pub invariant-loop-x : goal.invariant-loop-x

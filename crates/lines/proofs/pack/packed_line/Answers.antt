@@ -11,11 +11,11 @@ pack-requires c = (refl, omega arith, omega arith, front_none _)
 
 pub pack-requires-2 : goal.pack-requires-2
 pack-requires-2 c = let a = c.args in (
-      begun_long a.bytes a.pairs.now c.pack.new.line c.pack.ensures,
-      omega arith,
-      omega arith,
-      begun_front a.bytes a.pairs.now c.pack.new.line c.pack.ensures 24 (omega arith),
-    )
+  begun_long a.bytes a.pairs.now c.pack.new.line c.pack.ensures,
+  omega arith,
+  omega arith,
+  begun_front a.bytes a.pairs.now c.pack.new.line c.pack.ensures 24 (omega arith),
+)
 
 pub returns : goal.returns
 returns c = let a = c.args in

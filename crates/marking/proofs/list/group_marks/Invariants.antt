@@ -1,9 +1,9 @@
-use Prim.Native.Nat.{ℕ, ◌+◌, ◌≤◌, ◌-◌}
-use mathlib.Core.Path.{◌≡◌, refl, ap, ◌∙◌}
+use Prim.Native.Nat.{◌+◌, ◌≤◌, ◌-◌}
+use mathlib.Core.Path.{◌≡◌}
 use Rattle.address.specs.Rows.{row_y}
 use Rattle.page.specs.Marks.{marked_too}
 use Rattle.asking.specs.HowAsked.{keyed_at}
-use Rattle.marking.proofs.Loops.{between, between_start, between_turn}
+use Rattle.marking.proofs.Loops.{between}
 use Rattle.marking.proofs.list.group_marks.Given as goal
 
 abbrev pub invariant-loop-y : goal.invariant-loop-y

@@ -26,11 +26,11 @@ keys_of-keys-requires c = page_y _ _ c.requires.2
 
 pub slice_marks-requires : goal.slice_marks-requires
 slice_marks-requires c = let z = c.first_block-z.ensures in (
-      ap length c.own_marks.ensures ∙ marked_long _ _,
-      has_first c.args.shown _ _ z c.block.ensures c.args.memory.now c.requires.1 c.if-shown-block.false,
-      has_second c.args.shown _ _ z c.block.ensures c.args.memory.now c.requires.1 c.if-shown-block.false,
-      keys_high_lem _ _ _ _ _ c.keys_of-keys.ensures,
-    )
+  ap length c.own_marks.ensures ∙ marked_long _ _,
+  has_first c.args.shown _ _ z c.block.ensures c.args.memory.now c.requires.1 c.if-shown-block.false,
+  has_second c.args.shown _ _ z c.block.ensures c.args.memory.now c.requires.1 c.if-shown-block.false,
+  keys_high_lem _ _ _ _ _ c.keys_of-keys.ensures,
+)
 
 pub returns-then-is_source : goal.returns-then-is_source
 returns-then-is_source c = let p = c.requires in

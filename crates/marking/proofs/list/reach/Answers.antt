@@ -1,6 +1,6 @@
 use mathlib.Core.Path.{ap}
 use mathlib.Core.Bool.{not}
-use Prim.Native.Nat.{ℕ, ◌≤◌, ◌<◌, ◌-◌}
+use Prim.Native.Nat.{ℕ}
 use mathlib.Core.Bool.{Bool}
 use native.Mathlib.Omega.{arith}
 use Rattle.address.specs.Rows.{row_y}
@@ -8,7 +8,7 @@ use Rattle.address.proofs.Laws.{row_small}
 use Rattle.asking.specs.HowAsked.{tall_at}
 use Rattle.marking.specs.HowMarked.{falls_to}
 use Rattle.marking.proofs.Falls.{falls_own, falls_next}
-use Rattle.marking.proofs.Loops.{below, row_asked, reach_on, reach_off, reach_start, reach_begins, reach_ends, reach_turn, reach_left, below_end}
+use Rattle.marking.proofs.Loops.{row_asked, reach_on, reach_off, reach_start, reach_begins, reach_ends, reach_turn, reach_left, below_end}
 use borrow.Author.Rules.{rules}
 use Rattle.marking.proofs.list.reach.Goals as goal
 

@@ -1,10 +1,10 @@
-use Prim.Native.Nat.{ℕ, ◌≤◌, ◌<◌, ◌-◌}
+use Prim.Native.Nat.{◌≤◌, ◌<◌, ◌-◌}
 use mathlib.Core.Path.{◌≡◌}
 use Rattle.address.specs.Rows.{row_y}
 use Rattle.page.specs.Marks.{marked_too}
 use Rattle.asking.specs.HowAsked.{tall_at}
 use Rattle.marking.specs.HowMarked.{falls_to}
-use Rattle.marking.proofs.Loops.{below, row_asked, reach_on, reach_off, reach_start, reach_begins, reach_ends, reach_turn, reach_left, below_end}
+use Rattle.marking.proofs.Loops.{below}
 use Rattle.marking.proofs.list.reach.Given as goal
 
 abbrev pub invariant-loop-r : goal.invariant-loop-r

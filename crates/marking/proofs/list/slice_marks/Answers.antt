@@ -1,13 +1,13 @@
 use lib.ListN.{length}
-use Prim.Native.Nat.{ℕ, ◌+◌, ◌*◌, ◌≤◌, ◌-◌}
+use Prim.Native.Nat.{ℕ, ◌+◌, ◌*◌}
 use mathlib.Core.Bool.{Bool}
-use mathlib.Core.Path.{◌≡◌, ap, ◌∙◌}
+use mathlib.Core.Path.{ap, ◌∙◌}
 use native.Mathlib.Omega.{arith}
 use Rattle.address.specs.Rows.{row_y}
 use Rattle.address.proofs.Laws.{row_small}
 use Rattle.asking.specs.HowAsked.{keyed_at}
 use Rattle.reading.proofs.Marking.{marked_long}
-use Rattle.marking.proofs.Loops.{up_to, begun_by_y, up_begins, up_ends, up_asked, up_left, up_end}
+use Rattle.marking.proofs.Loops.{begun_by_y, up_begins, up_ends, up_asked, up_left, up_end}
 use borrow.Author.Rules.{rules}
 use Rattle.asking.proofs.Rows.{none_keyed}
 use Rattle.marking.proofs.list.slice_marks.Goals as goal
@@ -30,14 +30,13 @@ pub loop-g-preserved : goal.loop-g-preserved
 loop-g-preserved c =
     let l = c.loop-g in
     let s = c.args in
-    let k : ℕ → Bool = keyed_at s.keys s.memory.now s.z in
-    (
+    let k : ℕ → Bool = keyed_at s.keys s.memory.now s.z in (
       omega arith,
       elim c.if-near_has.branch [
-        then-near_has w ↦ w.marks-is ∙ up_asked k _ (row_y s.yor) 2 (8 + 2 * l.g) _ _ _ (omega arith) l.invariant.1 w.group_marks.ensures
+        | then-near_has w ↦ w.marks-is ∙ up_asked k _ (row_y s.yor) 2 (8 + 2 * l.g) _ _ _ (omega arith) l.invariant.1 w.group_marks.ensures
         | else-near_has w ↦
-          w.marks-is
-          ∙ up_left k _ (row_y s.yor) 2 (8 + 2 * l.g) _ _ (omega arith) l.invariant.1
-              (none_keyed s.keys c.requires.3 _ _ _ 2 _ c.near_has.ensures w.if-near_has.false)
+            w.marks-is
+            ∙ up_left k _ (row_y s.yor) 2 (8 + 2 * l.g) _ _ (omega arith) l.invariant.1
+            (none_keyed s.keys c.requires.3 _ _ _ 2 _ c.near_has.ensures w.if-near_has.false)
       ],
     )

@@ -1,9 +1,9 @@
-use Prim.Native.Nat.{ℕ, ◌+◌, ◌*◌, ◌≤◌, ◌-◌}
-use mathlib.Core.Path.{◌≡◌, ap, ◌∙◌}
+use Prim.Native.Nat.{◌+◌, ◌*◌, ◌≤◌, ◌-◌}
+use mathlib.Core.Path.{◌≡◌}
 use Rattle.address.specs.Rows.{row_y}
 use Rattle.page.specs.Marks.{marked_too}
 use Rattle.asking.specs.HowAsked.{keyed_at}
-use Rattle.marking.proofs.Loops.{up_to, begun_by_y, up_begins, up_ends, up_asked, up_left, up_end}
+use Rattle.marking.proofs.Loops.{up_to}
 use Rattle.marking.proofs.list.slice_marks.Given as goal
 
 abbrev pub invariant-loop-g : goal.invariant-loop-g

@@ -15,17 +15,17 @@ changed_block-requires c = let board = c.args.shown.blocks in
 
 pub changed_if-requires : goal.changed_if-requires
 changed_if-requires c = let board = c.args.shown.blocks in (
-      c.requires.0,
-      here_fits board (block_at c.args.at 0) _ (c.requires.4 0 (omega arith)) c.requires.1,
-      λ t. block_fits board _ (block_at c.args.at 1) (c.requires.4 1 (ltb-true _ _ t)) c.block-2.ensures,
-    )
+  c.requires.0,
+  here_fits board (block_at c.args.at 0) _ (c.requires.4 0 (omega arith)) c.requires.1,
+  λ t. block_fits board _ (block_at c.args.at 1) (c.requires.4 1 (ltb-true _ _ t)) c.block-2.ensures,
+)
 
 pub changed_if-requires-2 : goal.changed_if-requires-2
 changed_if-requires-2 c = let board = c.args.shown.blocks in (
-      c.requires.0,
-      here_fits board (block_at c.args.at 0) _ (c.requires.4 0 (omega arith)) c.requires.1,
-      λ t. block_fits board _ (block_at c.args.at 2) (c.requires.4 2 (ltb-true _ _ t)) c.block-3.ensures,
-    )
+  c.requires.0,
+  here_fits board (block_at c.args.at 0) _ (c.requires.4 0 (omega arith)) c.requires.1,
+  λ t. block_fits board _ (block_at c.args.at 2) (c.requires.4 2 (ltb-true _ _ t)) c.block-3.ensures,
+)
 
 pub change_marks-requires : goal.change_marks-requires
 change_marks-requires c = let board = c.args.shown.blocks in

@@ -1,9 +1,8 @@
 use mathlib.Core.Bool.{not}
 use mathlib.Core.Logic.{⊎_elim}
 use Rattle.basics.proofs.Choice.{eq_or_ne}
-use Prim.Native.Nat.{ℕ, ◌≤◌, ◌<◌, ◌-◌}
-use mathlib.Core.Bool.{false}
-use mathlib.Core.Path.{◌≡◌, sym, ap, ◌∙◌}
+use Prim.Native.Nat.{◌-◌}
+use mathlib.Core.Path.{sym, ap, ◌∙◌}
 use native.Mathlib.Omega.{arith}
 use Rattle.basics.proofs.Below.{any_hit, any_never}
 use Rattle.marking.specs.HowMarked.{is_unmarked}

@@ -11,15 +11,15 @@ changed_block-requires c = let board = c.args.shown.blocks in
 
 pub change_marks-requires : goal.change_marks-requires
 change_marks-requires c = let board = c.args.shown.blocks in (
-      search rules,
-      c.requires.0,
-      legal_page board c.args.at c.requires.1,
-      (
-        changed_fits board _ _ _ _ _ (legal_block board c.args.at c.requires.1) c.changed_block.ensures.0,
-        inl refl,
-        inl refl,
-      ),
-    )
+  search rules,
+  c.requires.0,
+  legal_page board c.args.at c.requires.1,
+  (
+    changed_fits board _ _ _ _ _ (legal_block board c.args.at c.requires.1) c.changed_block.ensures.0,
+    inl refl,
+    inl refl,
+  ),
+)
 
 pub returns-then-some_changed : goal.returns-then-some_changed
 returns-then-some_changed c = let a = c.args in

@@ -1,4 +1,3 @@
-use borrow.Author.Tests.{not-true, not-false}
 use Rattle.moves.proofs.Going.{no_stop, ends_auxiliary, ends_main}
 use Rattle.moves.proofs.onward.is_end.Goals as goal
 

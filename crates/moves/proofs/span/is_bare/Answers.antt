@@ -1,8 +1,7 @@
 use Rattle.moves.proofs.Spans.{bare_as, none_bare}
 use Rattle.basics.proofs.Below.{any_none, gathered, gathered_end}
 use native.Mathlib.Omega.{arith}
-use mathlib.Core.Path.{◌≡◌, sym}
-use Prim.Native.Nat.{◌≤◌, ◌-◌}
+use mathlib.Core.Path.{sym}
 use Rattle.moves.proofs.span.is_bare.Goals as goal
 
 pub returns-then-at-blocks : goal.returns-then-at-blocks

@@ -1,6 +1,6 @@
 use Rattle.moves.specs.Spans.{is_bare_in}
 use Rattle.basics.specs.Below.{any_below}
-use mathlib.Core.Path.{◌≡◌, sym}
+use mathlib.Core.Path.{◌≡◌}
 use Prim.Native.Nat.{◌≤◌, ◌-◌}
 use Rattle.moves.proofs.span.is_bare.Given as goal
 

@@ -1,8 +1,8 @@
-use Rattle.narrow.specs.HowInks.{ink_of, inks_of, eight_of}
+use Rattle.narrow.specs.HowInks.{ink_of, eight_of}
 use Rattle.basics.specs.Parts.{joined}
 use lib.ListN.{length, take}
 use mathlib.Core.List.{[], ◌∷◌, ◌++◌}
-use mathlib.Core.Path.{◌≡◌, refl}
+use mathlib.Core.Path.{◌≡◌}
 use Prim.Native.Nat.{◌≤◌, ◌-◌, ◌*◌}
 use Rattle.narrow.proofs.ink.inks_of.Given as goal
 

@@ -1,9 +1,8 @@
 use native.Mathlib.Omega.{arith}
 use Rattle.basics.proofs.Filled.{table_set, table_end}
-use Rattle.basics.specs.Parts.{table, joined}
-use lib.ListN.{length, get_or, take, length-set}
-use mathlib.Core.Path.{◌≡◌, refl}
-use Prim.Native.Nat.{◌≤◌, ◌-◌, ◌%◌}
+use Rattle.basics.specs.Parts.{joined}
+use lib.ListN.{length-set}
+use mathlib.Core.Path.{refl}
 use Rattle.narrow.proofs.text.shaded_ten.Goals as goal
 
 pub loop-n-init : goal.loop-n-init

@@ -1,8 +1,8 @@
-use Rattle.basics.specs.Parts.{table, joined}
+use Rattle.basics.specs.Parts.{table}
 use Rattle.narrow.specs.HowTens.{shaded_of}
 use lib.Dec.{eqb}
-use lib.ListN.{length, get_or, take, length-set}
-use mathlib.Core.Path.{◌≡◌, refl}
+use lib.ListN.{length, get_or, take}
+use mathlib.Core.Path.{◌≡◌}
 use Prim.Native.Nat.{◌≤◌, ◌-◌, ◌%◌}
 use Rattle.narrow.proofs.text.shaded_ten.Given as goal
 

@@ -1,7 +1,6 @@
 use mathlib.Core.Path.{ap, ◌∙◌}
 use Rattle.packing.specs.Layouts.{packed, unpacked}
 use Rattle.packing.proofs.RoundTrip.{unpacked_packed}
-use borrow.Author.Rules.{rules}
 use Rattle.packing.proofs.Layouts.{packed_parts}
 use Rattle.packing.proofs.layout.packed.Goals as goal
 

@@ -1,9 +1,9 @@
-use lib.ListN.{length-set, length, take}
+use lib.ListN.{length-set, length}
 use Rattle.basics.proofs.Filled.{copy_end}
 use Rattle.packing.proofs.Parts.{length_part, part_at_lem, taken_set, part}
 use native.Mathlib.Omega.{arith}
 use mathlib.Core.Path.{◌≡◌, refl}
-use Prim.Native.Nat.{◌≤◌, ◌+◌, ◌-◌}
+use Prim.Native.Nat.{◌≤◌, ◌+◌}
 use borrow.Author.Rules.{rules}
 use Rattle.packing.proofs.part.eight_from.Goals as goal
 

@@ -1,7 +1,7 @@
-use lib.ListN.{length-set, length, take}
-use Rattle.packing.proofs.Parts.{length_part, part_at_lem, taken_set, part}
-use mathlib.Core.Path.{◌≡◌, refl}
-use Prim.Native.Nat.{◌≤◌, ◌+◌, ◌-◌}
+use lib.ListN.{length, take}
+use Rattle.packing.proofs.Parts.{part}
+use mathlib.Core.Path.{◌≡◌}
+use Prim.Native.Nat.{◌≤◌, ◌-◌}
 use Rattle.packing.proofs.part.eight_from.Given as goal
 
 abbrev pub invariant-loop-i : goal.invariant-loop-i

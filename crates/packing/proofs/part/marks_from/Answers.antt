@@ -1,9 +1,9 @@
-use lib.ListN.{length-set, length, take}
+use lib.ListN.{length-set, length}
 use Rattle.basics.proofs.Filled.{copy_end}
 use Rattle.packing.proofs.Parts.{length_marks, mark_at, taken_set, part}
 use native.Mathlib.Omega.{arith}
 use mathlib.Core.Path.{◌≡◌, refl}
-use Prim.Native.Nat.{◌≤◌, ◌+◌, ◌-◌}
+use Prim.Native.Nat.{◌≤◌, ◌+◌}
 use mathlib.Core.Bool.{false}
 use mathlib.Core.List.{map}
 use Rattle.packing.specs.Layouts.{is_on}

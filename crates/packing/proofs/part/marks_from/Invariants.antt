@@ -1,7 +1,7 @@
-use lib.ListN.{length-set, length, take}
-use Rattle.packing.proofs.Parts.{length_marks, mark_at, taken_set, part}
-use mathlib.Core.Path.{◌≡◌, refl}
-use Prim.Native.Nat.{◌≤◌, ◌+◌, ◌-◌}
+use lib.ListN.{length, take}
+use Rattle.packing.proofs.Parts.{part}
+use mathlib.Core.Path.{◌≡◌}
+use Prim.Native.Nat.{◌≤◌, ◌-◌}
 use mathlib.Core.List.{map}
 use Rattle.packing.specs.Layouts.{is_on}
 use Rattle.packing.proofs.part.marks_from.Given as goal

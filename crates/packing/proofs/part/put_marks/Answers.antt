@@ -1,10 +1,9 @@
 use Rattle.packing.proofs.Parts.{put_end, put_mark}
 use native.Mathlib.Omega.{arith}
 use mathlib.Core.Path.{◌≡◌, refl}
-use Prim.Native.Nat.{◌≤◌, ◌-◌}
 use mathlib.Core.List.{map}
 use lib.ListN.{length, length-set}
-use lib.Seq.{paste, paste-zero}
+use lib.Seq.{paste-zero}
 use Rattle.basics.specs.Choice.{one_if}
 use borrow.Author.Rules.{rules}
 use Rattle.packing.proofs.part.put_marks.Goals as goal

@@ -1,4 +1,3 @@
-use borrow.Author.Rules.{rules}
 use Rattle.packing.proofs.Layouts.{reported_parts}
 use Rattle.packing.proofs.report.reported.Goals as goal
 

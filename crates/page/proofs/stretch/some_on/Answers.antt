@@ -3,17 +3,16 @@ use Rattle.basics.proofs.Below.{gathered}
 use Rattle.page.proofs.Stretches.{compared_fit, compared_on, within_less}
 use native.Mathlib.Omega.{arith}
 use mathlib.Core.Path.{◌≡◌, refl, ap, ◌∙◌}
-use Prim.Native.Nat.{◌+◌, ◌≤◌, ◌-◌}
 use Rattle.page.proofs.stretch.some_on.Goals as goal
 
 pub loop-i-init : goal.loop-i-init
 unfolding any_below
 loop-i-init c = let p = c.requires in (
-      omega arith,
-      compared_fit c.args.memory.now c.args.z c.args.third p.0 _ _ _ _ c.compared_by-here.ensures p.1 p.3 p.4,
-      compared_fit c.args.memory.now c.args.z c.args.third p.0 _ _ _ _ c.compared_by-over.ensures p.2 p.3 p.4,
-      refl,
-    )
+  omega arith,
+  compared_fit c.args.memory.now c.args.z c.args.third p.0 _ _ _ _ c.compared_by-here.ensures p.1 p.3 p.4,
+  compared_fit c.args.memory.now c.args.z c.args.third p.0 _ _ _ _ c.compared_by-over.ensures p.2 p.3 p.4,
+  refl,
+)
 
 pub goes_on_at-found-requires : goal.goes_on_at-found-requires
 goes_on_at-found-requires c = let l = c.loop-i in

@@ -1,6 +1,6 @@
 use Rattle.basics.specs.Below.{any_below}
 use Rattle.page.specs.HowHalves.{Within, goes_on_in}
-use mathlib.Core.Path.{◌≡◌, refl, ap, ◌∙◌}
+use mathlib.Core.Path.{◌≡◌}
 use Prim.Native.Nat.{◌+◌, ◌≤◌, ◌-◌}
 use Rattle.page.proofs.stretch.some_on.Given as goal
 

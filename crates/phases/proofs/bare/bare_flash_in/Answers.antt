@@ -1,8 +1,7 @@
-use Prim.Native.Nat.{◌≤◌, ◌-◌}
-use mathlib.Core.Path.{◌≡◌, refl}
+use mathlib.Core.Path.{refl}
 use native.Mathlib.Omega.{arith}
 use Rattle.reading.specs.Marks.{flash_in}
-use Rattle.marking.proofs.Loops.{below, below_start, below_turn, below_end}
+use Rattle.marking.proofs.Loops.{below_start, below_turn, below_end}
 use Rattle.phases.proofs.bare.bare_flash_in.Goals as goal
 
 pub loop-r-init : goal.loop-r-init

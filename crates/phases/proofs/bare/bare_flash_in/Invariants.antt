@@ -1,8 +1,8 @@
 use Prim.Native.Nat.{◌≤◌, ◌-◌}
-use mathlib.Core.Path.{◌≡◌, refl}
+use mathlib.Core.Path.{◌≡◌}
 use Rattle.page.specs.Marks.{marked_too}
 use Rattle.reading.specs.Marks.{flash_in}
-use Rattle.marking.proofs.Loops.{below, below_start, below_turn, below_end}
+use Rattle.marking.proofs.Loops.{below}
 use Rattle.phases.proofs.bare.bare_flash_in.Given as goal
 
 abbrev pub invariant-loop-r : goal.invariant-loop-r

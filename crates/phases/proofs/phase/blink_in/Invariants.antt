@@ -1,9 +1,9 @@
 use Prim.Native.Nat.{◌≤◌, ◌-◌}
-use mathlib.Core.Path.{◌≡◌, ap}
+use mathlib.Core.Path.{◌≡◌}
 use Rattle.address.specs.Rows.{row_y}
 use Rattle.page.specs.Marks.{marked_too}
 use Rattle.asking.specs.HowAsked.{blink_at}
-use Rattle.marking.proofs.Loops.{below, below_start, below_turn, below_end}
+use Rattle.marking.proofs.Loops.{below}
 use Rattle.phases.proofs.phase.blink_in.Given as goal
 
 abbrev pub invariant-loop-r : goal.invariant-loop-r

@@ -1,14 +1,14 @@
 use lib.ListN.{length}
-use Prim.Native.Nat.{ℕ, ◌+◌, ◌*◌, ◌≤◌, ◌-◌}
+use Prim.Native.Nat.{ℕ, ◌+◌, ◌*◌}
 use mathlib.Core.Bool.{Bool}
-use mathlib.Core.Path.{◌≡◌, refl, sym, ap, ◌∙◌}
+use mathlib.Core.Path.{refl, sym, ap, ◌∙◌}
 use native.Mathlib.Omega.{arith}
 use Rattle.board.specs.declared.Part.TheVariants.{Ef9345}
 use Rattle.address.specs.Rows.{row_y}
 use Rattle.address.proofs.Laws.{row_service, row_from_one}
 use Rattle.reading.proofs.Marking.{marked_long}
 use Rattle.asking.specs.HowAsked.{flash_at}
-use Rattle.marking.proofs.Loops.{up_to, begun_by_row, up_begins, up_ends, up_asked, up_left, up_end}
+use Rattle.marking.proofs.Loops.{begun_by_row, up_begins, up_ends, up_asked, up_left, up_end}
 use borrow.Author.Rules.{rules}
 use Rattle.phases.proofs.Quiet.{quiet_still}
 use Rattle.phases.proofs.phase.flash_in.Goals as goal
@@ -34,14 +34,13 @@ pub loop-g-preserved : goal.loop-g-preserved
 loop-g-preserved c =
     let l = c.loop-g in
     let s = c.args in
-    let f : ℕ → Bool = λ r. flash_at Ef9345 s.memory.now s.z (row_y s.yor r) in
-    (
+    let f : ℕ → Bool = λ r. flash_at Ef9345 s.memory.now s.z (row_y s.yor r) in (
       omega arith,
       elim c.if-not-are_quiet.branch [
-        then-not-are_quiet w ↦ w.marks-is ∙ up_asked f _ (λ i. i) 4 (1 + 4 * l.g) _ _ _ (omega arith) l.invariant.1 w.four_flash.ensures
+        | then-not-are_quiet w ↦ w.marks-is ∙ up_asked f _ (λ i. i) 4 (1 + 4 * l.g) _ _ _ (omega arith) l.invariant.1 w.four_flash.ensures
         | else-not-are_quiet w ↦
-          w.marks-is
-          ∙ up_left f _ (λ i. i) 4 (1 + 4 * l.g) _ _ (omega arith) l.invariant.1
-              (quiet_still s.memory.now s.z _ _ Ef9345 s.yor (1 + 4 * l.g) _ c.are_quiet.ensures w.if-not-are_quiet.false c.row_y.ensures (λ e. omega arith))
+            w.marks-is
+            ∙ up_left f _ (λ i. i) 4 (1 + 4 * l.g) _ _ (omega arith) l.invariant.1
+            (quiet_still s.memory.now s.z _ _ Ef9345 s.yor (1 + 4 * l.g) _ c.are_quiet.ensures w.if-not-are_quiet.false c.row_y.ensures (λ e. omega arith))
       ],
     )

@@ -1,10 +1,10 @@
-use Prim.Native.Nat.{ℕ, ◌+◌, ◌*◌, ◌≤◌, ◌-◌}
-use mathlib.Core.Path.{◌≡◌, refl, sym, ap, ◌∙◌}
+use Prim.Native.Nat.{◌+◌, ◌*◌, ◌≤◌, ◌-◌}
+use mathlib.Core.Path.{◌≡◌}
 use Rattle.board.specs.declared.Part.TheVariants.{Ef9345}
 use Rattle.address.specs.Rows.{row_y}
 use Rattle.page.specs.Marks.{marked_too}
 use Rattle.asking.specs.HowAsked.{flash_at}
-use Rattle.marking.proofs.Loops.{up_to, begun_by_row, up_begins, up_ends, up_asked, up_left, up_end}
+use Rattle.marking.proofs.Loops.{up_to}
 use Rattle.phases.proofs.phase.flash_in.Given as goal
 
 abbrev pub invariant-loop-g : goal.invariant-loop-g

@@ -1,10 +1,10 @@
-use Prim.Native.Nat.{ℕ, ◌+◌, ◌≤◌, ◌-◌}
-use mathlib.Core.Path.{◌≡◌, refl, ap, ◌∙◌}
+use Prim.Native.Nat.{◌+◌, ◌≤◌, ◌-◌}
+use mathlib.Core.Path.{◌≡◌}
 use Rattle.board.specs.declared.Part.TheVariants.{Ef9345}
 use Rattle.address.specs.Rows.{row_y}
 use Rattle.page.specs.Marks.{marked_too}
 use Rattle.asking.specs.HowAsked.{flash_at}
-use Rattle.marking.proofs.Loops.{between, between_start, between_turn}
+use Rattle.marking.proofs.Loops.{between}
 use Rattle.phases.proofs.phase.four_flash.Given as goal
 
 abbrev pub invariant-loop-r : goal.invariant-loop-r

@@ -1,10 +1,9 @@
-use Prim.Native.Nat.{◌≤◌, ◌-◌}
-use mathlib.Core.Path.{◌≡◌, ap}
+use mathlib.Core.Path.{ap}
 use native.Mathlib.Omega.{arith}
 use Rattle.address.specs.Rows.{row_y}
 use Rattle.address.proofs.Laws.{row_small}
 use Rattle.asking.specs.HowAsked.{pair_flash_at}
-use Rattle.marking.proofs.Loops.{below, below_start, below_turn, below_end}
+use Rattle.marking.proofs.Loops.{below_start, below_turn, below_end}
 use borrow.Author.Rules.{rules}
 use Rattle.phases.proofs.phase.pair_flash_in.Goals as goal
 

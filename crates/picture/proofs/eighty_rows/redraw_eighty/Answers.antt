@@ -1,9 +1,8 @@
-use Rattle.picture.proofs.AnyRows.{DrawnTo, start, keep}
+use Rattle.picture.proofs.AnyRows.{start, keep}
 use Rattle.picture.proofs.Redrawing.{rom_least, drew_eighty, eighty_end}
 use Rattle.eighty.specs.Rows.{eighty_row}
 use Rattle.shown.specs.Lengths.{eighty_bytes}
 use native.Mathlib.Omega.{arith}
-use Prim.Native.Nat.{◌-◌}
 use borrow.Author.Rules.{rules}
 use Rattle.picture.proofs.eighty_rows.redraw_eighty.Goals as goal
 

@@ -1,4 +1,4 @@
-use Rattle.picture.proofs.AnyRows.{DrawnTo, start, keep}
+use Rattle.picture.proofs.AnyRows.{DrawnTo}
 use Rattle.eighty.specs.Rows.{eighty_row}
 use Rattle.shown.specs.Lengths.{eighty_bytes}
 use Prim.Native.Nat.{◌-◌}

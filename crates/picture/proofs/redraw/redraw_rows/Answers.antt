@@ -1,8 +1,8 @@
-use Rattle.picture.proofs.AnyRows.{DrawnTo, start, keep}
+use Rattle.picture.proofs.AnyRows.{start, keep}
 use Rattle.picture.proofs.Redrawing.{drew_row, redrawn_end, not_known, known_next}
 use Rattle.rows.specs.Rows.{forty_row}
 use Rattle.shown.specs.Lengths.{forty_bytes}
-use Prim.Native.Nat.{◌+◌, ◌-◌}
+use Prim.Native.Nat.{◌+◌}
 use borrow.Author.Rules.{rules}
 use Rattle.picture.proofs.redraw.redraw_rows.Goals as goal
 

@@ -1,8 +1,8 @@
-use Rattle.picture.proofs.AnyRows.{DrawnTo, start, keep}
+use Rattle.picture.proofs.AnyRows.{DrawnTo}
 use Rattle.rows.specs.Rows.{forty_row}
 use Rattle.page.specs.HowHalves.{KnownAbove}
 use Rattle.shown.specs.Lengths.{forty_bytes}
-use Prim.Native.Nat.{◌+◌, ◌-◌}
+use Prim.Native.Nat.{◌-◌}
 use Rattle.picture.proofs.redraw.redraw_rows.Given as goal
 
 abbrev pub invariant-loop-r : goal.invariant-loop-r

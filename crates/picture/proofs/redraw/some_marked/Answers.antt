@@ -1,7 +1,6 @@
 use Rattle.basics.proofs.Below.{any_none, gathered, gathered_end}
 use native.Mathlib.Omega.{arith}
-use mathlib.Core.Path.{◌≡◌, refl, sym}
-use Prim.Native.Nat.{◌≤◌, ◌-◌}
+use mathlib.Core.Path.{refl, sym}
 use Rattle.picture.proofs.redraw.some_marked.Goals as goal
 
 pub loop-r-init : goal.loop-r-init

@@ -1,6 +1,6 @@
 use Rattle.page.specs.Marks.{is_marked}
 use Rattle.basics.specs.Below.{any_below}
-use mathlib.Core.Path.{◌≡◌, refl, sym}
+use mathlib.Core.Path.{◌≡◌}
 use Prim.Native.Nat.{◌≤◌, ◌-◌}
 use Rattle.picture.proofs.redraw.some_marked.Given as goal
 

@@ -1,5 +1,5 @@
 use Rattle.processor.proofs.Carrying.{either_astray}
-use mathlib.Core.Path.{sym, refl}
+use mathlib.Core.Path.{sym}
 use Rattle.address.proofs.Fits.{byte_illegal, code_illegal, narrow_illegal}
 use Rattle.processor.proofs.execute.is_astray.Goals as goal
 

@@ -19,10 +19,10 @@ is_unfitted-requires c = (search rules, sym c.is_astray.ensures ∙ c.if-is_astr
 pub returns-then-is_unfitted : goal.returns-then-is_unfitted
 unfolding ran
 returns-then-is_unfitted c = rw (
-      sym c.is_unlisted.ensures ∙ c.if-is_unlisted.false,
-      sym c.is_astray.ensures ∙ c.if-is_astray.false,
-      sym c.is_unfitted.ensures ∙ c.if-is_unfitted.true,
-    )
+  sym c.is_unlisted.ensures ∙ c.if-is_unlisted.false,
+  sym c.is_astray.ensures ∙ c.if-is_astray.false,
+  sym c.is_unfitted.ensures ∙ c.if-is_unfitted.true,
+)
     refl
 
 pub effect-requires : goal.effect-requires
@@ -31,8 +31,8 @@ effect-requires c = (c.requires.0, c.requires.1, sym c.is_astray.ensures ∙ c.i
 pub returns : goal.returns
 unfolding ran
 returns c = rw (
-      sym c.is_unlisted.ensures ∙ c.if-is_unlisted.false,
-      sym c.is_astray.ensures ∙ c.if-is_astray.false,
-      sym c.is_unfitted.ensures ∙ c.if-is_unfitted.false,
-    )
+  sym c.is_unlisted.ensures ∙ c.if-is_unlisted.false,
+  sym c.is_astray.ensures ∙ c.if-is_astray.false,
+  sym c.is_unfitted.ensures ∙ c.if-is_unfitted.false,
+)
     (ap (λ (k : Chip). outcome k (Accepted c.args.value)) c.effect.ensures)

@@ -5,10 +5,10 @@ use Rattle.processor.proofs.position.krl.Goals as goal
 
 pub narrow_read-requires : goal.narrow_read-requires
 narrow_read-requires c = (
-      rw c.cleared-free.ensures c.requires.0,
-      rw (c.cleared-free.ensures, c.pointer-at.ensures) c.requires.1,
-      rw (c.cleared-free.ensures, c.pointer-at.ensures) c.requires.2,
-    )
+  rw c.cleared-free.ensures c.requires.0,
+  rw (c.cleared-free.ensures, c.pointer-at.ensures) c.requires.1,
+  rw (c.cleared-free.ensures, c.pointer-at.ensures) c.requires.2,
+)
 
 pub returns-then-reads : goal.returns-then-reads
 unfolding krl
@@ -16,10 +16,10 @@ returns-then-reads c = rw (c.if-reads.true, c.advance_if.ensures, c.narrow_read.
 
 pub narrow_stored-requires : goal.narrow_stored-requires
 narrow_stored-requires c = (
-      rw c.cleared-free.ensures c.requires.0,
-      rw (c.cleared-free.ensures, c.pointer-at.ensures) c.requires.1,
-      rw (c.cleared-free.ensures, c.pointer-at.ensures) c.requires.2,
-    )
+  rw c.cleared-free.ensures c.requires.0,
+  rw (c.cleared-free.ensures, c.pointer-at.ensures) c.requires.1,
+  rw (c.cleared-free.ensures, c.pointer-at.ensures) c.requires.2,
+)
 
 pub returns : goal.returns
 unfolding krl

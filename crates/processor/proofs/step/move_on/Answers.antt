@@ -1,6 +1,6 @@
 use Rattle.processor.proofs.Carrying.{placed}
 use mathlib.Core.Path.{sym, ◌∙◌}
-use Rattle.processor.proofs.Carrying.{both_astray, both_bare, moved_astray, moved_bare, moved_position}
+use Rattle.processor.proofs.Carrying.{moved_astray, moved_bare, moved_position}
 use Rattle.processor.proofs.step.move_on.Goals as goal
 
 pub returns-then-not-are_legal : goal.returns-then-not-are_legal

@@ -1,10 +1,9 @@
 use Rattle.shown.specs.Lengths.{forty_bytes, line_bytes}
 use lib.ListN.{length}
 use Rattle.basics.proofs.Filled.{copy_set, copy_end}
-use lib.ListN.{length, take, length-set}
+use lib.ListN.{length, length-set}
 use native.Mathlib.Omega.{arith}
 use mathlib.Core.Path.{◌≡◌, refl}
-use Prim.Native.Nat.{◌≤◌, ◌-◌}
 use borrow.Author.Rules.{rules}
 use Rattle.rows.proofs.row.copy_line.Goals as goal
 

@@ -1,7 +1,7 @@
 use Rattle.shown.specs.Lengths.{forty_bytes, line_bytes}
 use lib.ListN.{length}
-use lib.ListN.{length, take, length-set}
-use mathlib.Core.Path.{◌≡◌, refl}
+use lib.ListN.{length, take}
+use mathlib.Core.Path.{◌≡◌}
 use Prim.Native.Nat.{◌≤◌, ◌-◌}
 use Rattle.rows.proofs.row.copy_line.Given as goal
 

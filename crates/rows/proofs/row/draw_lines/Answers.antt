@@ -1,9 +1,8 @@
-use Rattle.shown.proofs.Lines.{LinesTo, no_lines, line_drawn, all_lines}
+use Rattle.shown.proofs.Lines.{no_lines, line_drawn, all_lines}
 use Rattle.shown.specs.Lengths.{forty_bytes}
 use Rattle.lines.proofs.Drawn.{line_long}
 use native.Mathlib.Omega.{arith}
 use mathlib.Core.Path.{◌∙◌}
-use Prim.Native.Nat.{◌-◌}
 use borrow.Author.Rules.{rules}
 use Rattle.rows.proofs.row.draw_lines.Goals as goal
 

@@ -1,4 +1,4 @@
-use Rattle.shown.proofs.Lines.{LinesTo, no_lines, line_drawn, all_lines}
+use Rattle.shown.proofs.Lines.{LinesTo}
 use Rattle.shown.specs.Lengths.{forty_bytes}
 use Rattle.lines.specs.HowLines.{line_on}
 use Prim.Native.Nat.{◌-◌}

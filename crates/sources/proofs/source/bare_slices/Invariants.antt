@@ -1,9 +1,9 @@
-use Rattle.basics.specs.Parts.{table, joined}
+use Rattle.basics.specs.Parts.{table}
 use Rattle.address.specs.Places.{place_at, byte_at}
 use Rattle.address.specs.Slices.{slice_at}
-use lib.ListN.{length, take, length-set}
-use mathlib.Core.Path.{◌≡◌, refl, ap, ◌∙◌}
-use Prim.Native.Nat.{ℕ, ◌≤◌, ◌-◌}
+use lib.ListN.{length, take}
+use mathlib.Core.Path.{◌≡◌}
+use Prim.Native.Nat.{◌≤◌, ◌-◌}
 use Rattle.sources.proofs.source.bare_slices.Given as goal
 
 abbrev pub invariant-loop-n : goal.invariant-loop-n

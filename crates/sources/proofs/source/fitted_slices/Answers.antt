@@ -1,11 +1,11 @@
 use Rattle.sources.proofs.SliceSources.{slice_place, slice_fits}
 use Rattle.basics.proofs.Filled.{table_set, table_end}
-use Rattle.basics.specs.Parts.{table, joined}
-use Rattle.address.specs.Places.{place_at, byte_at}
-use lib.ListN.{length, take, length-set}
+use Rattle.basics.specs.Parts.{joined}
+use Rattle.address.specs.Places.{byte_at}
+use lib.ListN.{length-set}
 use native.Mathlib.Omega.{arith}
-use mathlib.Core.Path.{◌≡◌, refl, ap}
-use Prim.Native.Nat.{ℕ, ◌≤◌, ◌-◌}
+use mathlib.Core.Path.{refl, ap}
+use Prim.Native.Nat.{ℕ}
 use Rattle.sources.proofs.source.fitted_slices.Goals as goal
 
 pub loop-n-init : goal.loop-n-init

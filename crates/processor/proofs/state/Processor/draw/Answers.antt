@@ -23,10 +23,10 @@ returns-then-is_refused_8 c = rw c.refused-then-is_refused_8.ensures
 
 pub redraw-rows-requires : goal.redraw-rows-requires
 redraw-rows-requires c = (
-      c.if-picture-asked.false ∙ asked_length _ _ c.picture_asked-asked.ensures c.if-asked-eq0.false,
-      rw c.shown-shown.ensures (c.if-memory-bytes_of.false ∙ c.bytes_of.ensures),
-      c.if-rom-rom_asked.false ∙ c.rom_asked.ensures,
-    )
+  c.if-picture-asked.false ∙ asked_length _ _ c.picture_asked-asked.ensures c.if-asked-eq0.false,
+  rw c.shown-shown.ensures (c.if-memory-bytes_of.false ∙ c.bytes_of.ensures),
+  c.if-rom-rom_asked.false ∙ c.rom_asked.ensures,
+)
 
 pub returns : goal.returns
 returns c = draw_done_lem _ _ _ _ (c.if-memory-bytes_of.false ∙ c.bytes_of.ensures) _ c.shown-shown.ensures _ c.rom_asked.ensures c.if-rom-rom_asked.false _ c.picture_asked-asked.ensures c.if-asked-eq0.false
