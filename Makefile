@@ -27,9 +27,10 @@ NAMED_KIT = .ci/kit || echo "Going on with the kit that is here." >&2
 
 library: ## the archive and the header for C and Rust, in target/library
 	@$(NAMED_KIT)
-	rt staticlib binturamis
+	rt lib binturamis_c
 	mkdir -p target/library
-	cp target/staticlib/libbinturamis.a include/binturamis.h target/library/
+	cp crates/binturamis_c/out/libbinturamis_c.a target/library/libbinturamis.a
+	cp include/binturamis.h target/library/
 	host/bridge/build target/library
 
 # Made again only where a source is newer, since making it takes longer than what asks for it.
@@ -49,18 +50,21 @@ install: target/library/libbinturamis.a ## the archive, the header and a pkg-con
 bench: target/library/libbinturamis.a ## what calls of the library cost, in instructions
 	host/bench/run
 
-check: ## the proofs alone, over what has changed, and every program run
+check: ## the proofs alone, over what has changed, and the program run
 	@$(NAMED_KIT)
-	rt check
+	rt all check
+	rt run panel <crates/panel/stdin | cmp - crates/panel/stdout
 
-facts: ## what each must-fail edit contradicts, once they were tried; fails where that is no fact
+facts: ## tries each must-fail edit and says what it contradicts; fails where that is no fact
 	@.ci/facts
 
 panel: target/bin/panel ## the program `panel` on the example of the rules
 	@cd host && cargo run --quiet --release --offline -p panel <../crates/panel/stdin
 
-target/bin/panel:
-	rt check panel
+target/bin/panel: $(wildcard crates/*/src/*.rt)
+	rt run panel <crates/panel/stdin >/dev/null
+	mkdir -p target/bin
+	cp crates/panel/out/panel target/bin/
 
 rom: ## the demonstration ROMs, target/demonstration.rom, with narrow letters for 80 columns target/narrow.rom, and target/ts9347.rom
 	@mkdir -p target
@@ -70,12 +74,12 @@ rom: ## the demonstration ROMs, target/demonstration.rom, with narrow letters fo
 	@echo "target/demonstration.rom, target/narrow.rom and target/ts9347.rom are written"
 
 format: ## the layout of every file
-	rt fmt
+	for crate in crates/*; do (cd "$$crate" && rt fmt) || exit 1; done
 	cd host && cargo fmt
 
 kit: ## records the kit that is here in the file KIT; then `make test` must pass
 	@kit=$$(rt version) && echo "$$kit" >KIT
 	@echo "KIT is now: $$(cat KIT)"
 
-clean: ## removes all that was made: target and host/target
-	rm -rf target host/target
+clean: ## removes all that was made: target, host/target and what rt keeps in the crates
+	rm -rf target host/target crates/*/out

@@ -1,5 +1,5 @@
 -- What is claimed of the calls, beside the contract of each: they are the operations of the three demands (kept/specs/Demands), so that all that
--- is said there holds of them. Nothing is proved here; each is the type of the theorem of that name, in small letters with hyphens.
+-- is said there holds of them. Nothing is proved here; each is the type of the theorem of that name, in small letters with underscores.
 -- Assumes nothing.
 use Rattle.std.specs.Prelude.{ℕ, ◌≡◌, Bool, true, List}
 use Rattle.board.specs.Boards.{is_board}

@@ -1,6 +1,6 @@
-// What the C interface does (crate `binturamis_c` hands it to C): the processor's operations on 64 bytes that the caller keeps. Each unpacks the bytes, does the operation and packs
-// what it leaves, so that any 64 bytes get an answer; those of a power-up or of an earlier call mean the processor that it left. Where
-// a refusal has changed nothing, nothing is written.
+// What the C interface does: the processor's operations on 64 bytes that the caller keeps; crate `binturamis_c` hands them to C. Each unpacks
+// the bytes, does the operation and packs what it leaves, so that any 64 bytes get an answer; those of a power-up or of an earlier call mean
+// the processor that it left. Where a refusal has changed nothing, nothing is written.
 #![tactic(auto)]
 
 ghost use Rattle.std.specs.Prelude.{◌≡◌};

@@ -1,5 +1,5 @@
 -- The frame law. Two memories that agree on every place that row r's list holds in the first: all that r takes from memory is the same in
--- the second, its row buffer in 80 columns, and with it r's bytes for every ROM. (That the list is the same is `List-same` of crate reading.)
+-- the second, its row buffer in 80 columns, and with it r's bytes for every ROM. (That the list is the same is `list_same` of crate reading.)
 -- Assumes nothing.
 use Prim.Native.Nat.{ℕ, zero, suc, ◌<◌}
 use mathlib.Core.Path.{◌≡◌, refl, sym, ap, ◌∙◌}

@@ -1,5 +1,5 @@
 -- What is claimed: the three demands as statements, in their order, each followed by what it comes to, Demand1 to Demand3, and what is said of moves. Nothing is proved
--- here: each is the type of a theorem of the same name, in small letters with hyphens, and proofs/Demands has all three together.
+-- here: each is the type of a theorem of the same name, in small letters with underscores, and proofs/Demands has all three together.
 -- Operations, what they are lent, and runs are in Runs; the refusals and their order in Orders; the premises of demand 3 in Premises; what
 -- stores in Quiet; what marks in Rules.
 -- Assumes nothing.

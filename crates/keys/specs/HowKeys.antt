@@ -1,5 +1,5 @@
 -- How the code tells, by X and Y and a few blocks, which cells read a byte there as a slice, and which row has it among its own. Nothing here has to be
--- believed: `keyed_cell` of proofs/Characters.antt shows that the keys tell exactly the cells that read such a byte, and `own_bytes` and `row_at` of
+-- believed: `keyed_cell` of proofs/Characters.antt shows that the keys tell exactly the cells that read such a byte, and `own_bytes` and `row_at_lem` of
 -- proofs/Places.antt which row has it, and that it is found by its Y.
 -- Assumes nothing.
 use Rattle.std.specs.Prelude.{ℕ, ◌+◌, ◌-◌, ◌*◌, ◌/◌, ◌%◌, ◌<◌, ◌≡◌, Bool, not, ◌&&◌, ◌||◌, List, ◌⊎◌, eqb, leb, ltb, get_or}

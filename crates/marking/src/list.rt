@@ -116,7 +116,8 @@ pub fn list_marks(
 {
     let yor = shown.yor();
     let z = shown.first_block();
-    if shown.is_eighty() {
+    let eighty = shown.is_eighty();
+    if eighty {
         own_row(marks, z, yor, y, blocks);
         return;
     }

@@ -14,14 +14,14 @@ pub struct Program {
 }
 
 impl Program {
-    /// The program that `rt check` has built.
+    /// The program that `make target/bin/panel` has built.
     pub fn built(name: &str) -> Result<Program, String> {
         let path = Path::new(env!("CARGO_MANIFEST_DIR"))
             .join("../../target/bin")
             .join(name);
         if !path.is_file() {
             return Err(format!(
-                "target/bin/{name} is not built: run `rt check` first"
+                "target/bin/{name} is not built: run `make target/bin/{name}` first"
             ));
         }
         Ok(Program {

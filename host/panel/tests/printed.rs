@@ -38,7 +38,7 @@ fn the_example_of_the_rules_page() -> Result<(), String> {
     let program = Program::built("panel")?;
     let printed = agreed(&program, "the example", &EXAMPLE)?;
     assert_eq!(printed, format!("0 0 25\n{EIGHT}\n"));
-    // `rt check` runs the program on these two files.
+    // `rt ci` runs the program on these two files.
     assert_eq!(include_bytes!("../../../crates/panel/stdin"), &EXAMPLE);
     assert_eq!(include_str!("../../../crates/panel/stdout"), printed);
     Ok(())

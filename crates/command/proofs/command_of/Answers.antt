@@ -3,7 +3,7 @@ use Rattle.command.specs.Commands.{command_of}
 use Rattle.command.specs.declared.Command.TheVariants.{Nop, Ind, Krf, Oct, Krl, Move}
 use Rattle.basics.proofs.Choice.{lt_or_le}
 use lib.Dec.{eqb}
-use mathlib.Core.Path.{refl}
+use mathlib.Core.Path.{◌≡◌, refl}
 use mathlib.Core.Logic.{⊎_elim}
 use mathlib.Core.Bool.{true, false}
 use native.Mathlib.Omega.{arith}
@@ -13,12 +13,12 @@ use Rattle.command.proofs.command_of.Goals as goal
 -- src/lib.rt:24:1
 pub returns-in-135 : goal.returns-in-135
 unfolding command_of
-returns-in-135 c = rw c.in-135.is refl
+returns-in-135 c = let e : c.args.byte ≡ 135 = omega (arith, c.in-135.is) in rw e refl
 
 -- src/lib.rt:24:1
 pub returns-in-143 : goal.returns-in-143
 unfolding command_of
-returns-in-143 c = rw c.in-143.is refl
+returns-in-143 c = let e : c.args.byte ≡ 143 = omega (arith, c.in-143.is) in rw e refl
 
 pub returns-in-0-to-1 : goal.returns-in-0-to-1
 unfolding command_of

@@ -5,7 +5,7 @@ pub returns-then-not-stops : goal.returns-then-not-stops
 returns-then-not-stops c = no_stop _ _ c.if-not-stops.true
 
 pub returns-then-registers-eq39 : goal.returns-then-registers-eq39
-returns-then-registers-eq39 c = ends_auxiliary _ _ c.if-not-stops.false c.if-registers-eq39.true
+returns-then-registers-eq39 c = ends_auxiliary c.args.stops c.args.registers c.if-not-stops.false c.if-registers-eq39.true
 
 pub returns : goal.returns
-returns c = ends_main _ _ c.if-not-stops.false c.if-registers-eq39.false
+returns c = ends_main c.args.stops c.args.registers c.if-not-stops.false c.if-registers-eq39.false

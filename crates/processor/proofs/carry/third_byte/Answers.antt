@@ -1,4 +1,4 @@
-use mathlib.Core.Path.{refl, ◌∙◌}
+use mathlib.Core.Path.{◌≡◌, refl, ◌∙◌}
 use native.Mathlib.Omega.{arith}
 use Prim.Native.Nat.{◌<◌}
 use lib.ListN.{length, set, length-set}
@@ -12,7 +12,8 @@ pub returns-then-place-second : goal.returns-then-place-second
 returns-then-place-second c = let t = c.if-not-asked.false in
     let m = set c.args.memory.now c.args.first c.args.c in
     let l : c.args.second < length m = rw (length-set c.args.memory.now c.args.first c.args.c) (omega (arith, (c.requires.2 t).1)) in
-    rw t (load_stored m c.args.at _ c.args.second c.args.b c.place.ensures c.if-place-second.true l)
+    let met : c.place.result ≡ c.args.second = omega (arith, c.if-place-second.true) in
+    rw t (load_stored m c.args.at _ c.args.second c.args.b c.place.ensures met l)
 
 pub load_after-requires : goal.load_after-requires
 load_after-requires c = (c.requires.0, (c.requires.2 c.if-not-asked.false).0, c.requires.1)
