@@ -27,7 +27,7 @@ NAMED_KIT = .ci/kit || echo "Going on with the kit that is here." >&2
 
 library: ## the archive and the header for C and Rust, in target/library
 	@$(NAMED_KIT)
-	rt lib binturamis_c
+	cd crates/binturamis_c && rt lib
 	mkdir -p target/library
 	cp crates/binturamis_c/out/libbinturamis_c.a target/library/libbinturamis.a
 	cp include/binturamis.h target/library/
@@ -53,7 +53,7 @@ bench: target/library/libbinturamis.a ## what calls of the library cost, in inst
 check: ## the proofs alone, over what has changed, and the program run
 	@$(NAMED_KIT)
 	rt all check
-	rt run panel <crates/panel/stdin | cmp - crates/panel/stdout
+	cd crates/panel && rt run <stdin | cmp - stdout
 
 facts: ## tries each must-fail edit and says what it contradicts; fails where that is no fact
 	@.ci/facts
@@ -62,7 +62,7 @@ panel: target/bin/panel ## the program `panel` on the example of the rules
 	@cd host && cargo run --quiet --release --offline -p panel <../crates/panel/stdin
 
 target/bin/panel: $(wildcard crates/*/src/*.rt)
-	rt run panel <crates/panel/stdin >/dev/null
+	cd crates/panel && rt run <stdin >/dev/null
 	mkdir -p target/bin
 	cp crates/panel/out/panel target/bin/
 
