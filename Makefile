@@ -55,7 +55,7 @@ check: ## the proofs alone, over what has changed, and the program run
 	rt all check
 	cd crates/panel && rt run <stdin | cmp - stdout
 
-facts: ## tries each must-fail edit and says what it contradicts; fails where that is no fact
+facts: ## what each must-fail edit contradicts, as the gate told it, or else by trying them; fails where that is no fact
 	@.ci/facts
 
 panel: target/bin/panel ## the program `panel` on the example of the rules

@@ -1,4 +1,4 @@
-//! How a built program is run: it is an executable for x86-64 Linux that stands alone.
+//! How a built program is run: it is an executable for x86-64 Linux, which the machine's own loader starts.
 
 use std::env::{self, consts::ARCH};
 use std::path::{Path, PathBuf};
