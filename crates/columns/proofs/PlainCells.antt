@@ -110,4 +110,4 @@ put_plain tens after part ten x e p h =
 
 pub ten_long : (m rom : List ℕ) (shown : Shown) (cell : Cell) (lower right : Bool) → length (ten_of m rom shown cell lower right) ≡ 10
 unfolding ten_of
-ten_long m rom shown cell lower right = length_table _ 10
+ten_long _ _ _ _ _ _ = length_table _ 10

@@ -8,7 +8,7 @@ pub fn put_column(columns: &mut [u8], x: usize, column: &[u8])
     requires { (length columns.old ≡ 40 * length column.now) × (x < 40) }
     ensures { columns.new ≡ table (put_at columns.old x column.now) (40 * length column.now) }
 {
-    for n in 0..column.len() {
-        columns[40 * n + x] = column[n];
+    for (n, byte) in column.iter().enumerate() {
+        columns[40 * n + x] = *byte;
     }
 }

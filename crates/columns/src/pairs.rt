@@ -32,9 +32,9 @@ pub fn pairs_of(cells: [[u8; 3]; 40], shown: Shown) -> [u8; 160]
     ensures { result ≡ pairs_of cells shown }
 {
     let part = shown.part;
-    let mut pairs = [0u8; 160];
-    for x in 0..40 {
-        let four = steps(cell_pairs(decode(part, cells[x]), shown));
+    let mut pairs = [0; 160];
+    for (x, code) in cells.iter().enumerate() {
+        let four = steps(cell_pairs(decode(part, *code), shown));
         put_column(&mut pairs, x, &four);
     }
     pairs

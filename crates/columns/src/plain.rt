@@ -7,12 +7,6 @@ ghost use Rattle.columns.specs.HowTens.{is_plain};
 use board::Part;
 use sources::source::rom_set;
 
-fn index(set: u8) -> usize
-    ensures { result ≡ set }
-{
-    set as usize
-}
-
 pub fn is_plain(b: u8) -> bool
     ensures { result ≡ is_plain b }
 {
@@ -23,5 +17,5 @@ pub fn is_plain(b: u8) -> bool
 pub fn rom_start(part: Part, c: u8, b: u8) -> usize
     ensures { result ≡ set_number part (b / 16 % 8) * 1280 + c % 128 * 10 }
 {
-    index(rom_set(part, b)) * 1280 + (c % 128) as usize * 10
+    rom_set(part, b) as usize * 1280 + (c % 128) as usize * 10
 }

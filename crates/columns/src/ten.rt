@@ -14,16 +14,13 @@ use pixels::width::doubled;
 use shown::Shown;
 use slices::slice::shown_slices;
 use sources::source::slices_of;
+use std::array;
 
 // Of each of ten slices the half that is shown.
 pub fn doubled_slices(right: bool, slices: [u8; 10]) -> [u8; 10]
     ensures { result ≡ table (doubled_of slices right) 10 }
 {
-    let mut ten = [0u8; 10];
-    for n in 0..10 {
-        ten[n] = doubled(right, slices[n]);
-    }
-    ten
+    array::from_fn(|n| doubled(right, slices[n]))
 }
 
 pub fn ten_of(
@@ -81,7 +78,7 @@ pub fn tens_of(
     requires { (length memory.now ≡ bytes_of shown.blocks) × (length rom.now ≡ rom_bytes shown.part) }
     ensures { result ≡ tens_of memory.now rom.now shown cells lowers rights }
 {
-    let mut tens = [0u8; 400];
+    let mut tens = [0; 400];
     for x in 0..40 {
         put_ten(
             &mut tens, x, memory, rom, shown, cells[x], lowers[x], rights[x],

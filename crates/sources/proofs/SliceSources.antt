@@ -1,4 +1,4 @@
--- Laws of sources and slices: a source is one of the five ROM sets or of the sixteen blocks that registers can name, and a slice that is fitted is in memory.
+-- Laws of sources and slices: a source is one of the five ROM sets or of the sixteen blocks that registers can name, and the slices of a character are in one block.
 -- Assumes nothing.
 use Prim.Native.Nat.{ℕ, ◌+◌, ◌*◌, ◌/◌, ◌%◌, ◌<◌, ◌≤◌}
 use mathlib.Core.Path.{◌≡◌, sym, ap, ◌∙◌}
@@ -15,7 +15,6 @@ use Rattle.address.specs.Slices.{slice_x, slice_y, slice_at, slice_address}
 use Rattle.address.specs.Triples.{legal_y, legal}
 use Rattle.address.proofs.Addresses.{address_illegal, byte_kept}
 use Rattle.address.proofs.Laws.{good_column}
-use Rattle.address.proofs.Places.{place_fits}
 use Rattle.shown.specs.declared.Shown.{Shown}
 use Rattle.board.specs.declared.Part.{Part}
 use Rattle.board.specs.declared.Part.TheVariants.{Ef9345, Ts9347}
@@ -62,10 +61,6 @@ slice_place c n z p e =
     let x : n * 4 + c % 4 ≡ slice_x c n = omega arith in
     let y : c / 4 % 32 ≡ slice_y c = omega arith in
     e ∙ rw (x, y)
-
--- is in memory, where memory has its block
-pub slice_fits : (m : List ℕ) (c n z p : ℕ) → p ≡ place_at (slice_at c n z) → n < 10 → 1024 * z + 1024 ≤ length m → p < length m
-slice_fits m c n z p e l h = omega (arith, place_fits (z + 1) (slice_x c n) (slice_y c) z (omega arith) (omega arith) (omega arith))
 
 -- the ten slices of a character have one Y and one block
 module _ (blocks : ℕ) (m : List ℕ) (c z : ℕ) where

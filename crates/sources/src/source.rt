@@ -14,6 +14,7 @@ use address::place::place_at;
 use address::triple::is_legal_y;
 use board::Part;
 use shown::Shown;
+use std::array;
 
 #[derive(Clone, Copy)]
 pub enum Source {
@@ -25,12 +26,6 @@ pub enum Source {
 
 // The ROM sets that B6..B4 name: of an EF9345 in the order G0, G10, G11, G20, G21, and then of a TS9347 in the order G10, GOE, G0.
 const SETS: [u8; 16] = [0, 0, 1, 2, 3, 3, 4, 4, 2, 2, 0, 1, 2, 2, 0, 1];
-
-fn index(high: u8) -> usize
-    ensures { result ≡ high }
-{
-    high as usize
-}
 
 // Where the table has a part's sets.
 fn sets_of(part: Part) -> u8
@@ -46,7 +41,7 @@ fn sets_of(part: Part) -> u8
 pub fn rom_set(part: Part, b: u8) -> u8
     ensures { result ≡ set_number part (b / 16 % 8) }
 {
-    SETS[index(sets_of(part) + b / 16 % 8)]
+    SETS[(sets_of(part) + b / 16 % 8) as usize]
 }
 
 // The block of B from 128 on, in which the parts do not differ: that of user G'0, of user G'1 or of user Q.
@@ -74,34 +69,20 @@ pub fn source_of(shown: Shown, code: [u8; 3]) -> Source
     Source::Block(user_block(shown.dor, b))
 }
 
-// The ten slices of a character in private memory, where they are read.
-fn fitted_slices(memory: &[u8], c: u8, z: u8) -> [u8; 10]
-    requires { 1024 * z + 1024 ≤ length memory.now }
+// The ten slices of a character in private memory, where they are read. A byte that is not fitted, past the end of memory, is 0.
+fn read_slices(memory: &[u8], c: u8, z: u8) -> [u8; 10]
     ensures { result ≡ table (λ n. byte_at memory.now (place_at (slice_at c n z))) 10 }
 {
-    let mut slices = [0u8; 10];
-    for n in 0..10 {
-        let p = place_at(n as u16 * 4 + c as u16 % 4, c as u16 / 4 % 32, z as u16);
-        slices[n] = memory[p];
-    }
-    slices
+    array::from_fn(|n| {
+        byte_or_zero(
+            memory,
+            place_at(n as u16 * 4 + c as u16 % 4, c as u16 / 4 % 32, z as u16),
+        )
+    })
 }
 
-// The same in a block that is not fitted, and lies past the end of memory.
-fn bare_slices(memory: &[u8], c: u8, z: u8) -> [u8; 10]
-    ensures { result ≡ table (λ n. byte_at memory.now (place_at (slice_at c n z))) 10 }
-{
-    let mut slices = [0u8; 10];
-    for n in 0..10 {
-        let p = place_at(n as u16 * 4 + c as u16 % 4, c as u16 / 4 % 32, z as u16);
-        slices[n] = byte_or_zero(memory, p);
-    }
-    slices
-}
-
-// The ten slices of a character in private memory of a board of so many blocks: 0 where no byte is read. They have one Y and one block, so that one
-// test of each tells it for all of them; the block is fitted where it starts before the end of memory. (That [0; 10] is returned in one place alone
-// spares the compiler's code a dozen instructions a cell.)
+// The ten slices of a character in private memory of a board of so many blocks: 0 where no byte is read. They have one Y, so that one test of it tells
+// it for all of them.
 pub fn kept_slices(memory: &[u8], blocks: u8, c: u8, z: u8) -> [u8; 10]
     requires { length memory.now ≡ bytes_of blocks }
     ensures { result ≡ table (kept_slice blocks memory.now c z) 10 }
@@ -109,10 +90,7 @@ pub fn kept_slices(memory: &[u8], blocks: u8, c: u8, z: u8) -> [u8; 10]
     if !is_legal_y(c / 4 % 32) {
         return [0; 10];
     }
-    if (z as usize) * 1024 < memory.len() {
-        return fitted_slices(memory, c, z);
-    }
-    bare_slices(memory, c, z)
+    read_slices(memory, c, z)
 }
 
 // The ten slices of a character stand side by side in the ROM.
@@ -121,10 +99,8 @@ pub fn rom_slices(rom: &[u8], c: u8, set: u8) -> [u8; 10]
     ensures { result ≡ table (rom_slice rom.now c set) 10 }
 {
     let first = set as usize * 1280 + (c % 128) as usize * 10;
-    let mut slices = [0u8; 10];
-    for n in 0..10 {
-        slices[n] = rom[first + n];
-    }
+    let mut slices = [0; 10];
+    slices.copy_from_slice(&rom[first..first + 10]);
     slices
 }
 

@@ -19,7 +19,7 @@ returns-then-is_plain c = let a = c.args in
     (ten_of a.memory.now a.rom.now a.shown (decoded a.shown.part a.code) a.lower a.right) a.x c.put_column.ensures
     (ap (λ (w : ℕ). take w (drop first a.rom.now)) ten
     ∙ plain_ten a.memory.now a.rom.now a.shown a.code (sym c.is_plain.ensures ∙ c.if-is_plain.true) a.lower a.right first c.rom_start-first.ensures c.requires.3
-    (λ n. omega (arith, c.shared_slice_known-1.given n)) (λ n. omega (arith, c.shared_slice_known-2-1.given n)))
+    (λ n. (c.type_inv.memory n).fits) (λ n. (c.type_inv.rom n).fits))
     (ten_long a.memory.now a.rom.now a.shown (decoded a.shown.part a.code) a.lower a.right)
 
 pub returns : goal.returns

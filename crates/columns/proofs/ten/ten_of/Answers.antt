@@ -1,4 +1,3 @@
-use native.Mathlib.Omega.{arith}
 use Rattle.page.specs.Inputs.{decoded}
 use Rattle.columns.proofs.Tens.{ten_wide, ten_whole, wide_code}
 use mathlib.Core.Path.{sym, ◌∙◌}
@@ -15,5 +14,5 @@ pub returns : goal.returns
 returns c = let a = c.args in
     let cell = decoded a.shown.part a.code in
     ten_whole a.memory.now a.rom.now a.shown cell a.lower a.right _ _ c.shown_slices-slices.ensures c.slices_of.ensures
-    (λ i. omega (arith, c.shared_slice_known-1.given i)) (λ i. omega (arith, c.shared_slice_known-2-1.given i)) (search rules)
+    (λ i. (c.type_inv.memory i).fits) (λ i. (c.type_inv.rom i).fits) (search rules)
     (sym (c.is_wide.ensures ∙ wide_code a.shown.part a.code) ∙ c.if-is_wide.false)

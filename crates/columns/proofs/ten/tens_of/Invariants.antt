@@ -1,10 +1,6 @@
 use Rattle.columns.proofs.Columns.{CellsTo}
 use Rattle.columns.specs.HowTens.{ten_at}
-use Prim.Native.Nat.{◌≤◌, ◌-◌}
 use Rattle.columns.proofs.ten.tens_of.Given as goal
 
 abbrev pub invariant-loop-x : goal.invariant-loop-x
-invariant-loop-x l = (l.x ≤ 40) × CellsTo 10 (ten_at l.memory l.rom l.shown l.cells l.lowers l.rights) l.tens l.x
-
-abbrev pub decreases-loop-x : goal.decreases-loop-x
-decreases-loop-x l = 40 - l.x
+invariant-loop-x l = CellsTo 10 (ten_at l.memory l.rom l.shown l.cells l.lowers l.rights) l.tens l.x

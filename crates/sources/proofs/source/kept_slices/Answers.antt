@@ -1,5 +1,5 @@
+use Rattle.sources.proofs.SliceSources.{slices_none, slices_read}
 use Rattle.basics.specs.Parts.{joined}
-use Rattle.sources.proofs.SliceSources.{slices_read, slices_none}
 use mathlib.Core.Path.{◌∙◌}
 use native.Mathlib.Omega.{arith}
 use borrow.Author.Rules.{rules}
@@ -9,10 +9,6 @@ pub returns-then-not-is_legal_y : goal.returns-then-not-is_legal_y
 unfolding joined
 returns-then-not-is_legal_y c = slices_none c.args.blocks c.args.memory.now c.args.c c.args.z _ _ (omega arith) c.is_legal_y.ensures c.if-not-is_legal_y.true
 
-pub returns-then-z-memory : goal.returns-then-z-memory
-returns-then-z-memory c = c.fitted_slices.ensures
-    ∙ slices_read c.args.blocks c.args.memory.now c.args.c c.args.z _ _ (omega arith) c.is_legal_y.ensures c.if-not-is_legal_y.false (search rules)
-
 pub returns : goal.returns
-returns c = c.bare_slices.ensures
+returns c = c.read_slices.ensures
     ∙ slices_read c.args.blocks c.args.memory.now c.args.c c.args.z _ _ (omega arith) c.is_legal_y.ensures c.if-not-is_legal_y.false (search rules)

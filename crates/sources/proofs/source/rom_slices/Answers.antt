@@ -1,18 +1,7 @@
-use Rattle.sources.proofs.SliceSources.{rom_read}
-use Rattle.basics.proofs.Filled.{table_set, table_end}
-use Rattle.basics.specs.Parts.{joined}
-use lib.ListN.{length-set}
 use native.Mathlib.Omega.{arith}
-use mathlib.Core.Path.{refl}
+use Rattle.basics.proofs.Made.{table_copied}
+use Rattle.sources.proofs.SliceSources.{rom_read}
 use Rattle.sources.proofs.source.rom_slices.Goals as goal
 
-pub loop-n-init : goal.loop-n-init
-unfolding joined
-loop-n-init c = (omega arith, refl, refl)
-
-pub loop-n-preserved : goal.loop-n-preserved
-loop-n-preserved c = let l = c.loop-n in
-    (omega arith, simp length-set l.invariant.1, table_set _ _ _ _ l.invariant.2 (rom_read _ _ _ _) (omega arith))
-
 pub returns : goal.returns
-returns c = let l = c.loop-n in table_end _ _ 10 _ l.invariant.2 l.invariant.0 (omega arith) l.invariant.1
+returns c = table_copied _ c.args.rom.now _ _ _ 10 0 c.copy_from_slice.ensures.after (omega arith) (omega arith) (λ n l. rom_read _ _ _ _)
