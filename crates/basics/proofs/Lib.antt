@@ -5,3 +5,4 @@ pub mod Few
 pub mod Below
 pub mod Parts
 pub mod Filled
+pub mod Made
