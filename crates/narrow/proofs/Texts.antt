@@ -2,7 +2,7 @@
 -- Assumes nothing.
 use Prim.Native.Nat.{ℕ, ◌+◌, ◌-◌, ◌*◌, ◌%◌, ◌<◌, ◌≤◌}
 use mathlib.Core.Path.{◌≡◌, refl, sym, ap, ◌∙◌}
-use mathlib.Core.Bool.{Bool, true, false, ◌&&◌, and-false}
+use mathlib.Core.Bool.{Bool, true, false, not, ◌&&◌, and-false}
 use mathlib.Core.List.{List, [], ◌∷◌}
 use native.Mathlib.Omega.{arith}
 use lib.Dec.{eqb}
@@ -44,6 +44,11 @@ mosaic_cell rom shown cell l h =
     (λ n k.
     byte_same (is_set 0 cell.attributes) _ _
     (λ x q. sym (ap (λ (t : Bool). pick t (mosaic_bit cell n x) (text_bit rom shown cell n x)) (mosaic_c7 cell.character l h))))
+
+-- where flash may hide a cell, its phase decides
+pub by_phase : (cell : Narrow) (shown : Shown) → bit 2 cell.attributes ≡ 1 → bit 6 shown.pat ≡ 1 → not (eqb shown.phase (bit 3 cell.attributes)) ≡ hidden cell shown
+unfolding hidden
+by_phase cell shown e h = rw (eq-eqb (bit 2 cell.attributes) 1 e, eq-eqb (bit 6 shown.pat) 1 h)
 
 module _ (rom : List ℕ) (shown : Shown) (cell : Narrow) (text : cell.character < 128) where
   abbrev n3 : Bool
