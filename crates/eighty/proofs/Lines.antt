@@ -1,16 +1,23 @@
 -- The packed bytes of a line, put position by position.
 -- Assumes nothing.
-use Prim.Native.Nat.{ℕ, suc, ◌+◌, ◌*◌, ◌≤◌}
-use mathlib.Core.Path.{◌≡◌, refl, ap, ◌∙◌}
-use mathlib.Core.List.{List, [], ◌∷◌}
+use Prim.Native.Nat.{ℕ, ◌+◌, ◌-◌, ◌*◌, ◌≤◌}
+use mathlib.Core.Path.{◌≡◌, refl, sym, ap, ◌∙◌}
+use mathlib.Core.List.{List, [], ◌∷◌, ◌++◌}
+use native.Mathlib.Nat.{mul-suc}
+use native.Mathlib.Numerals.{add-one}
 use native.Mathlib.Omega.{arith}
-use lib.ListN.{length, get_or, set, take}
+use lib.ListN.{length, get_or, take, drop, length-drop}
+use lib.Seq.{take-suc, take-take, take-append-le, take-append-add, length-take-le, get_or-drop}
+use borrow.Rule.Slice.PartMut.{put_mid}
 use Rattle.basics.specs.Parts.{joined}
-use Rattle.basics.proofs.Filled.{front_stored}
-use Rattle.basics.proofs.Parts.{length_joined}
+use Rattle.basics.proofs.Parts.{joined_more, length_joined}
 use Rattle.shown.specs.Lengths.{eighty_bytes, line_bytes}
 use Rattle.narrow.specs.HowInks.{three_in}
 use Rattle.eighty.specs.HowEighty.{three_on, eighty_line_on}
+
+-- the first three of a list that has three
+first_three : (xs : List ℕ) → 3 ≤ length xs → take 3 xs ≡ get_or xs 0 0 ∷ get_or xs 1 0 ∷ get_or xs 2 0 ∷ []
+first_three xs h = rw (take-suc xs 2 0 (omega arith), take-suc xs 1 0 (omega arith), take-suc xs 0 0 (omega arith))
 
 module _ (tens inks : List ℕ) (n : ℕ) where
   three_long : (p : ℕ) → length (three_on tens inks n p) ≡ 3
@@ -21,41 +28,33 @@ module _ (tens inks : List ℕ) (n : ℕ) where
   unfolding eighty_line_on
   eighty_on_long = length_joined 3 (three_on tens inks n) 80 (λ p l. three_long p) ∙ omega arith
 
-  -- all but the last two are put
-  pub most_end :
-      (part : List ℕ) (p : ℕ) → take (3 * p) part ≡ joined (three_on tens inks n) p → p ≤ 78 → 78 ≤ p → take (3 * 78) part ≡ joined (three_on tens inks n) 78
-  most_end part p front a b = let e : p ≡ 78 = omega arith in rw e at front
+  -- the bytes found for position p begin with its three
+  three_found : (p from : ℕ) (four : List ℕ) → from ≡ 4 * get_or tens (10 * p + n) 0 → from + 4 ≤ length inks → four ≡ take (from + 4 - from) (drop from inks) → take 3 four ≡ three_on tens inks n p
+  unfolding three_in
+  three_found p from four is-from h is =
+      let first : from + 0 ≡ from = omega arith in
+      ap (take 3) is
+      ∙ take-take 3 (from + 4 - from) (drop from inks) (omega arith)
+      ∙ first_three (drop from inks) (rw (length-drop from inks) (omega arith))
+      ∙ rw (get_or-drop from inks 0, get_or-drop from inks 1, get_or-drop from inks 2, first)
+      (ap (λ (i : ℕ). get_or inks i 0 ∷ get_or inks (i + 1) 0 ∷ get_or inks (i + 2) 0 ∷ []) is-from)
 
-  module _ (part : List ℕ) (p at from : ℕ) (is_at : at ≡ 3 * p) (is-from : from ≡ 4 * get_or tens (10 * p + n) 0) (front : take (3 * p) part ≡ joined (three_on tens inks n) p) where
-    -- the three bytes, as the code finds them
-    abbrev byte : ℕ → ℕ
-    byte i = get_or inks (from + i) 0
+  -- put with the byte behind them
+  pub position_put :
+      (line four : List ℕ) (p from : ℕ)
+      → from ≡ 4 * get_or tens (10 * p + n) 0 → from + 4 ≤ length inks → four ≡ take (from + 4 - from) (drop from inks) → 3 ≤ length four → 3 * p ≤ length line
+      → take (3 * p) line ≡ joined (three_on tens inks n) p → take (3 * (p + 1)) (put_mid (3 * p) (3 * p + 4 - 3 * p) line four) ≡ joined (three_on tens inks n) (p + 1)
+  position_put line four p from is-from h is long within front =
+      let before : length (take (3 * p) line) ≡ 3 * p = length-take-le (3 * p) line within in
+      let next : 3 * (p + 1) ≡ length (take (3 * p) line) + 3 = rw (add-one, mul-suc) (omega arith) in
+      let rest : List ℕ = drop (3 * p + 4 - 3 * p) (drop (3 * p) line) in
+      ap (λ (m : ℕ). take m (take (3 * p) line ++ (four ++ rest))) next
+      ∙ take-append-add (take (3 * p) line) (four ++ rest) 3
+      ∙ ap (λ (z : List ℕ). take (3 * p) line ++ z) (take-append-le 3 four rest long ∙ three_found p from four is-from h is)
+      ∙ ap (λ (z : List ℕ). z ++ three_on tens inks n p) front
+      ∙ sym (joined_more (three_on tens inks n) p)
 
-    three_is : (get_or inks from 0 ∷ byte 1 ∷ byte 2 ∷ []) ≡ three_on tens inks n p
-    unfolding three_in
-    three_is = ap (λ (i : ℕ). get_or inks i 0 ∷ get_or inks (i + 1) 0 ∷ get_or inks (i + 2) 0 ∷ []) is-from
-
-    one : 3 * p + 1 ≡ suc (3 * p)
-    one = omega arith
-
-    two : 3 * p + 2 ≡ suc (suc (3 * p))
-    two = omega arith
-
-    three : 3 * p + 3 ≡ suc (suc (suc (3 * p)))
-    three = omega arith
-
-    -- put with the byte behind them, and alone
-    pub four_put :
-        (behind : ℕ) → at + 4 ≤ length part
-        → take (3 * (p + 1)) (set (set (set (set part at (get_or inks from 0)) (at + 1) (byte 1)) (at + 2) (byte 2)) (at + 3) behind)
-        ≡ joined (three_on tens inks n) (p + 1)
-    four_put behind h =
-        rw (is_at, one, two, three)
-        (front_stored 3 (three_on tens inks n) part (get_or inks from 0 ∷ byte 1 ∷ byte 2 ∷ behind ∷ []) p front three_is (omega arith) (omega arith))
-
-    pub three_put :
-        at + 3 ≤ length part
-        → take (3 * (p + 1)) (set (set (set part at (get_or inks from 0)) (at + 1) (byte 1)) (at + 2) (byte 2)) ≡ joined (three_on tens inks n) (p + 1)
-    three_put h =
-        rw (is_at, one, two)
-        (front_stored 3 (three_on tens inks n) part (get_or inks from 0 ∷ byte 1 ∷ byte 2 ∷ []) p front three_is (omega arith) (omega arith))
+  -- all are put
+  pub line_end : (line : List ℕ) (p : ℕ) → p ≤ 80 → 80 ≤ p → take (3 * p) line ≡ joined (three_on tens inks n) p → take 240 line ≡ eighty_line_on tens inks n
+  unfolding eighty_line_on
+  line_end line p a b front = let e : p ≡ 80 = omega arith in rw e at front

@@ -1,13 +1,13 @@
 -- The ten bytes of each position of a row: how many, how large, put column by column, and each found again.
 -- Assumes nothing.
 use Prim.Native.Nat.{ℕ, ◌+◌, ◌-◌, ◌*◌, ◌/◌, ◌%◌, ◌≤◌, ◌<◌}
-use mathlib.Core.Path.{◌≡◌, refl, sym, ap, ap₂, ◌∙◌}
-use mathlib.Core.List.{List, [], ◌++◌, append-nil}
+use mathlib.Core.Path.{◌≡◌, sym, ap, ap₂, ◌∙◌}
+use mathlib.Core.List.{List, [], ◌∷◌, ◌++◌, append-nil}
 use mathlib.Core.Logic.{⊎_elim}
 use native.Mathlib.Omega.{arith}
-use lib.ListN.{length, get_or, drop, length-append, get_or-append, drop_of_length-le}
-use lib.Seq.{take_at, drop_at, drop-drop, get_or-append-add}
-use borrow.Rule.Slice.PartMut.{put_mid}
+use lib.ListN.{length, get_or, length-append, get_or-append}
+use lib.Seq.{get_or-append-add}
+use Rattle.std.specs.List.{flat_map}
 use Rattle.basics.proofs.Choice.{lt_or_le}
 use Rattle.basics.proofs.Parts.{length_table, table_at, joined_at}
 use Rattle.shown.specs.declared.Shown.{Shown}
@@ -37,24 +37,10 @@ module _ (rom : List ℕ) (shown : Shown) where
     unfolding pair_tens
     pair_tens_long = rw (length-append, ten_long (even_of code), ten_long (odd_of code))
 
-    -- the even position's come first
-    pair_is : evens ++ odds ≡ pair_tens rom shown code
+    -- one after the other, the even position's first
+    pub pair_flat : (first second : List ℕ) → first ≡ evens → second ≡ odds → flat_map (λ ten. ten) (first ∷ second ∷ []) ≡ pair_tens rom shown code
     unfolding pair_tens
-    pair_is = refl
-
-    -- put in the two halves of a part
-    pub pair_put :
-        (part first second : List ℕ) → length part ≡ 20 → first ≡ evens → second ≡ odds
-        → put_mid 10 10 (put_mid 0 10 part first) second ≡ pair_tens rom shown code
-    pair_put part first second h p q =
-        let long : length first ≡ 10 = ap length p ∙ ten_long (even_of code) in
-        let rest : List ℕ = drop 10 part in
-        ap (λ (z : List ℕ). z ++ (second ++ drop 10 (drop 10 (first ++ rest)))) (take_at first rest 10 long)
-        ∙ ap (λ (z : List ℕ). first ++ (second ++ drop 10 z)) (drop_at first rest 10 long)
-        ∙ ap (λ (z : List ℕ). first ++ (second ++ z)) (drop-drop 10 10 part ∙ drop_of_length-le part {i = 20} (omega arith))
-        ∙ ap (λ (z : List ℕ). first ++ z) (append-nil second)
-        ∙ ap₂ ◌++◌ p q
-        ∙ pair_is
+    pair_flat first second p q = ap (λ (z : List ℕ). first ++ z) (append-nil second) ∙ ap₂ ◌++◌ p q
 
     pub even_at_lem : (n : ℕ) → n < 10 → get_or (pair_tens rom shown code) n 0 ≡ byte_of rom shown (even_of code) n
     unfolding pair_tens

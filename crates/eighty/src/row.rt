@@ -4,16 +4,17 @@ ghost use Rattle.basics.specs.Parts.{joined};
 ghost use Rattle.shown.specs.Lengths.{eighty_bytes, row_bytes};
 ghost use Rattle.narrow.specs.HowInks.{inks_of};
 ghost use Rattle.eighty.specs.Rows.{eighty_lines};
-ghost use Rattle.eighty.specs.HowEighty.{SevenBits, eighty_line_on};
+ghost use Rattle.eighty.specs.HowEighty.{eighty_line_on};
 
 use crate::line::draw_line;
-use crate::ten::tens_of;
+use crate::ten::{Tens, tens_of};
 use shown::Shown;
 use shown::length::EIGHTY_LINE_BYTES;
 
-fn draw_lines(part: &mut [u8], tens: &[u8; 800], inks: &[u8; 512])
-    requires { (length part.old ≡ row_bytes eighty_bytes) × SevenBits tens.now }
-    ensures { part.new ≡ joined (eighty_line_on tens.now inks.now) 10 }
+// Each line's part is cut out by its place: the library's `chunks_exact_mut` does not say what the slice ends as.
+fn draw_lines(part: &mut [u8], tens: &Tens, inks: &[u8; 512])
+    requires { length part.old ≡ row_bytes eighty_bytes }
+    ensures { part.new ≡ joined (eighty_line_on tens.now.bytes inks.now) 10 }
 {
     for n in 0..10 {
         draw_line(

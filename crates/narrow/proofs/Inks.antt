@@ -5,8 +5,7 @@ use mathlib.Core.Path.{◌≡◌, refl, ap, ap₂, ◌∙◌}
 use mathlib.Core.Bool.{Bool, true, false}
 use mathlib.Core.List.{List, [], ◌∷◌, ◌++◌}
 use native.Mathlib.Omega.{arith}
-use lib.ListN.{get_or, set, length, drop_of_length-le}
-use lib.Seq.{sets-eq}
+use lib.ListN.{get_or, length}
 use Rattle.basics.specs.Bits.{bits, is_set}
 use Rattle.basics.specs.Parts.{joined}
 use Rattle.basics.proofs.Computed.{agree_test2}
@@ -41,18 +40,12 @@ module _ (shown : Shown) (eight : List ℕ) (is : eight ≡ eight_of shown) (e :
       ∙ ap (pair_by shown) q
       ∙ ap₂ packed_of (ap₂ (ink_colour shown) (its_d e j l h) (low e j l h)) (ap₂ (ink_colour shown) (its_d e j l h) (high e j l h))
 
-  pub ink_put :
-      (part : List ℕ) (p q r : ℕ) → length part ≡ 4 → p ≡ e / 64 * 4 + e % 4 → q ≡ e / 64 * 4 + e / 4 % 4 → r ≡ e / 64 * 4 + e / 16 % 4
-      → set (set (set (set part 0 (get_or eight p 0)) 1 (get_or eight q 0)) 2 (get_or eight r 0)) 3 0 ≡ ink_of shown e ++ 0 ∷ []
+  pub ink_is :
+      (p q r : ℕ) → p ≡ e / 64 * 4 + e % 4 → q ≡ e / 64 * 4 + e / 4 % 4 → r ≡ e / 64 * 4 + e / 16 % 4
+      → (get_or eight p 0 ∷ get_or eight q 0 ∷ get_or eight r 0 ∷ 0 ∷ []) ≡ ink_of shown e ++ 0 ∷ []
   unfolding ink_of joined
-  ink_put part p q r h ep eq er =
-      all_set part _ _ _ _ h
-      ∙ rw (pair_is 0 p (omega arith) (ep ∙ omega arith) (omega arith), pair_is 1 q (omega arith) eq (omega arith), pair_is 2 r (omega arith) er (omega arith))
-    where
-      all_set : (part : List ℕ) (a b c d : ℕ) → length part ≡ 4 → set (set (set (set part 0 a) 1 b) 2 c) 3 d ≡ a ∷ b ∷ c ∷ d ∷ []
-      all_set part a b c d h =
-          sets-eq (a ∷ b ∷ c ∷ d ∷ []) part 0 (omega (arith, h))
-          ∙ ap (λ (z : List ℕ). (a ∷ b ∷ c ∷ d ∷ []) ++ z) (drop_of_length-le part {i = 4} (omega (arith, h)))
+  ink_is p q r ep eq er =
+      rw (pair_is 0 p (omega arith) (ep ∙ omega arith) (omega arith), pair_is 1 q (omega arith) eq (omega arith), pair_is 2 r (omega arith) er (omega arith))
 
 listed :
     {a b c d e f g h a' b' c' d' e' f' g' h' : ℕ} → a ≡ a' → b ≡ b' → c ≡ c' → d ≡ d' → e ≡ e' → f ≡ f' → g ≡ g' → h ≡ h'

@@ -45,19 +45,10 @@ mosaic_cell rom shown cell l h =
     byte_same (is_set 0 cell.attributes) _ _
     (λ x q. sym (ap (λ (t : Bool). pick t (mosaic_bit cell n x) (text_bit rom shown cell n x)) (mosaic_c7 cell.character l h))))
 
--- when flash hides a cell, in the order of the code's questions
-module _ (cell : Narrow) (shown : Shown) where
-  pub not_flash : (bit 2 cell.attributes ≡ 1 → ⊥) → false ≡ hidden cell shown
-  unfolding hidden
-  not_flash n = rw (ne_eqb (bit 2 cell.attributes) 1 n)
-
-  pub not_enabled : bit 2 cell.attributes ≡ 1 → (bit 6 shown.pat ≡ 1 → ⊥) → false ≡ hidden cell shown
-  unfolding hidden
-  not_enabled e n = rw (eq-eqb (bit 2 cell.attributes) 1 e, ne_eqb (bit 6 shown.pat) 1 n)
-
-  pub by_phase : bit 2 cell.attributes ≡ 1 → bit 6 shown.pat ≡ 1 → not (eqb shown.phase (bit 3 cell.attributes)) ≡ hidden cell shown
-  unfolding hidden
-  by_phase e h = rw (eq-eqb (bit 2 cell.attributes) 1 e, eq-eqb (bit 6 shown.pat) 1 h)
+-- where flash may hide a cell, its phase decides
+pub by_phase : (cell : Narrow) (shown : Shown) → bit 2 cell.attributes ≡ 1 → bit 6 shown.pat ≡ 1 → not (eqb shown.phase (bit 3 cell.attributes)) ≡ hidden cell shown
+unfolding hidden
+by_phase cell shown e h = rw (eq-eqb (bit 2 cell.attributes) 1 e, eq-eqb (bit 6 shown.pat) 1 h)
 
 module _ (rom : List ℕ) (shown : Shown) (cell : Narrow) (text : cell.character < 128) where
   abbrev n3 : Bool

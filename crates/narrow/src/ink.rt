@@ -25,24 +25,26 @@ fn eight_of(shown: Shown) -> [u8; 8]
 }
 
 // The three bytes of byte e, and one that no cell shows: bytes four apart are found by fewer instructions than bytes three apart.
-fn put_ink(part: &mut [u8], eight: &[u8; 8], shown: Shown, e: usize)
-    requires { (length part.old ≡ 4) × (eight.now ≡ eight_of shown) × (e < 128) }
-    ensures { part.new ≡ ink_of shown e ++ 0 ∷ [] }
+fn ink(eight: &[u8; 8], shown: Shown, e: usize) -> [u8; 4]
+    requires { (eight.now ≡ eight_of shown) × (e < 128) }
+    ensures { result ≡ ink_of shown e ++ 0 ∷ [] }
 {
     let d = e / 64 * 4;
-    part[0] = eight[d + e % 4];
-    part[1] = eight[d + e / 4 % 4];
-    part[2] = eight[d + e / 16 % 4];
-    part[3] = 0;
+    [
+        eight[d + e % 4],
+        eight[d + e / 4 % 4],
+        eight[d + e / 16 % 4],
+        0,
+    ]
 }
 
 pub fn inks_of(shown: Shown) -> [u8; 512]
     ensures { result ≡ inks_of shown }
 {
     let eight = eight_of(shown);
-    let mut inks = [0u8; 512];
+    let mut inks = [0; 512];
     for e in 0..128 {
-        put_ink(&mut inks[4 * e..4 * e + 4], &eight, shown, e);
+        inks[4 * e..4 * e + 4].copy_from_slice(&ink(&eight, shown, e));
     }
     inks
 }

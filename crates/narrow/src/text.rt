@@ -6,6 +6,7 @@ ghost use Rattle.narrow.specs.HowText.{hidden};
 
 use crate::pair::Narrow;
 use shown::Shown;
+use std::array;
 
 // Six bits of a slice, inverted or not, and D, the lowest bit of the attributes.
 fn shaded(slice: u8, negative: bool, attributes: u8) -> u8
@@ -22,24 +23,16 @@ fn shaded_ten(slices: &[u8], negative: bool, attributes: u8) -> [u8; 10]
     requires { length slices.now ≡ 10 }
     ensures { result ≡ table (λ n. shaded_of (get_or slices.now n 0) negative (eqb (attributes % 2) 1)) 10 }
 {
-    let mut ten = [0u8; 10];
-    for n in 0..10 {
-        ten[n] = shaded(slices[n], negative, attributes);
-    }
-    ten
+    array::from_fn(|n| shaded(slices[n], negative, attributes))
 }
 
 // Flash makes every bit 0 now.
 fn is_hidden(shown: Shown, cell: Narrow) -> bool
     ensures { result ≡ hidden cell shown }
 {
-    if cell.attributes / 4 % 2 != 1 {
-        return false;
-    }
-    if shown.pat / 64 % 2 != 1 {
-        return false;
-    }
-    shown.phase != cell.attributes / 8 % 2
+    cell.attributes / 4 % 2 == 1
+        && shown.pat / 64 % 2 == 1
+        && shown.phase != cell.attributes / 8 % 2
 }
 
 pub fn text_ten(rom: &[u8], shown: Shown, cell: Narrow) -> [u8; 10]

@@ -6,7 +6,7 @@ use borrow.Author.Rules.{rules}
 use Rattle.eighty.proofs.row.draw_lines.Goals as goal
 
 pub loop-n-init : goal.loop-n-init
-loop-n-init c = no_lines _ _ _ c.requires.0
+loop-n-init c = no_lines _ _ _ c.requires
 
 pub loop-n-preserved : goal.loop-n-preserved
 loop-n-preserved c = let l = c.loop-n in
