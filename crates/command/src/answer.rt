@@ -1,6 +1,9 @@
 // The answers: each is a Result, and its error is a refusal. The page gives an answer a number, 0 where nothing is refused, and a value.
 ghost use Rattle.std.specs.Prelude.{◌≡◌, ℕ};
 ghost use Rattle.command.specs.Answers.{number_of, value_of, power_number_of, draw_number_of, rows_of};
+ghost use Rattle.command.specs.declared.answer.BoardRefusal.{BoardRefusal};
+
+use board::UnknownPart;
 
 // Of an access, a phase change or a step, with the value where it has one.
 pub type Answer = Result<u8, Refusal>;
@@ -32,6 +35,14 @@ pub enum BoardRefusal {
     WrongBoard,
     // 14: the part is neither an EF9345 nor a TS9347.
     UnknownPart,
+}
+
+impl From<UnknownPart> for BoardRefusal {
+    ghost from_gives = { λ error refusal. refusal ≡ BoardRefusal.UnknownPart };
+
+    fn from(_error: UnknownPart) -> BoardRefusal {
+        BoardRefusal::UnknownPart
+    }
 }
 
 // Of a draw, with the number of rows.
