@@ -2,13 +2,18 @@
 #![tactic(auto)]
 
 ghost use Rattle.std.specs.Prelude.{◌≡◌};
-ghost use Rattle.board.specs.Boards.{is_part, part_named, part_number, is_board, bytes_of};
+ghost use Rattle.board.specs.Boards.{part_number, is_board, bytes_of};
+ghost use Rattle.board.specs.Numbers.{Names};
 
-#[derive(Clone, Copy)]
+#[derive(Clone, Copy, Debug, PartialEq, Eq)]
 pub enum Part {
     Ef9345,
     Ts9347,
 }
+
+// A number that no part has.
+#[derive(Clone, Copy, Debug, PartialEq, Eq)]
+pub struct UnknownPart(pub u8);
 
 // The board of which nothing else is said: an EF9345 with all its blocks.
 pub const BLOCKS: u8 = 16;
@@ -20,27 +25,28 @@ pub const TS9347_BLOCKS: u8 = 32;
 
 pub const TS9347_MEMORY_BYTES: usize = 1024 * 32;
 
-pub fn is_part(number: u8) -> bool
-    ensures { result ≡ is_part number }
-{
-    (number == 0) | (number == 1)
-}
+impl TryFrom<u8> for Part {
+    type Error = UnknownPart;
 
-pub fn part_named(number: u8) -> Part
-    ensures { result ≡ part_named number }
-{
-    if number == 0 {
-        return Part::Ef9345;
+    ghost try_from_gives = { Names };
+
+    fn try_from(number: u8) -> Result<Self, UnknownPart> {
+        match number {
+            0 => Ok(Part::Ef9345),
+            1 => Ok(Part::Ts9347),
+            _ => Err(UnknownPart(number)),
+        }
     }
-    Part::Ts9347
 }
 
-pub fn part_number(part: Part) -> u8
-    ensures { result ≡ part_number part }
-{
-    match part {
-        Part::Ef9345 => 0,
-        Part::Ts9347 => 1,
+impl From<Part> for u8 {
+    ghost from_gives = { λ part number. number ≡ part_number part };
+
+    fn from(part: Part) -> u8 {
+        match part {
+            Part::Ef9345 => 0,
+            Part::Ts9347 => 1,
+        }
     }
 }
 
@@ -49,7 +55,7 @@ pub fn is_board(part: Part, blocks: u8) -> bool
     ensures { result ≡ is_board part blocks }
 {
     match part {
-        Part::Ef9345 => (blocks == 2) | ((blocks == 8) | (blocks == 16)),
+        Part::Ef9345 => matches!(blocks, 2 | 8 | 16),
         Part::Ts9347 => blocks == 32,
     }
 }

@@ -5,10 +5,12 @@ use mathlib.Core.Path.{◌≡◌, refl, sym, ap, ◌∙◌}
 use mathlib.Core.Bool.{Bool, true, false, ◌&&◌}
 use lib.Dec.{leb}
 use native.Mathlib.Omega.{arith}
+use denote.Enum.Bare.{sameb}
 use borrow.Author.Tests.{le-leb, lt-leb}
 use Rattle.basics.specs.Bits.{is_set}
 use Rattle.basics.specs.Choice.{pick}
 use Rattle.basics.proofs.Computed.{agree_test}
+use Rattle.board.specs.contracts.Part.{the_type}
 use Rattle.board.specs.declared.Part.{Part}
 use Rattle.board.specs.declared.Part.TheVariants.{Ef9345, Ts9347}
 use Rattle.shown.specs.declared.Shown.{Shown}
@@ -38,6 +40,17 @@ module _ (shown : Shown) where
       told : (part : Part) → (has_eighty part && leb 192 shown.tgs) ≡ has_eighty part
       told Ef9345 = le-leb 192 shown.tgs l
       told Ts9347 = refl
+
+  -- the two tests of the code
+  pub eighty_asked : 192 ≤ shown.tgs → shown.tgs < 256 → (b : Bool) → b ≡ sameb the_type shown.part Ef9345 → b ≡ is_eighty shown
+  eighty_asked l h b e = e ∙ either shown.part ∙ eighty_part l h
+    where
+      either : (part : Part) → sameb the_type part Ef9345 ≡ has_eighty part
+      either Ef9345 = refl
+      either Ts9347 = refl
+
+  pub forty_asked : shown.tgs < 192 → leb 192 shown.tgs ≡ is_eighty shown
+  forty_asked l = lt-leb 192 shown.tgs l ∙ forty_tgs l
 
   -- the bytes of a column in each mode
   pub eighty_bytes_lem : is_eighty shown ≡ true → column_bytes shown ≡ eighty_bytes

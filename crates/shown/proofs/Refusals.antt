@@ -1,14 +1,12 @@
 -- Laws of the refusals: the bits of TGS and PAT as comparisons, and the length that 6 asks for.
 -- Assumes nothing.
-use Prim.Native.Nat.{ℕ, ◌/◌, ◌≤◌, ◌<◌}
-use mathlib.Core.Path.{◌≡◌, refl, sym, ap, ◌∙◌}
-use mathlib.Core.Bool.{Bool, true, false, not, ◌&&◌, ◌||◌}
+use Rattle.std.proofs.Common.{ℕ, ◌/◌, ◌≤◌, ◌<◌, ◌≡◌, refl, sym, ap, ◌∙◌, Bool, true, false, not, ◌&&◌, ◌||◌, Option, None, Some, arith}
+use Rattle.std.specs.Option.{is_some}
+use mathlib.Core.Bool.{and-false, or-true, or-false}
 use lib.Dec.{ltb, leb, eqb}
-use native.Mathlib.Omega.{arith}
 use borrow.Author.Tests.{le-leb, lt-leb, eq-eqb, ne_eqb}
 use Rattle.basics.specs.Bits.{is_set}
 use Rattle.basics.specs.Choice.{pick}
-use Rattle.basics.proofs.Choice.{pick_known}
 use Rattle.basics.proofs.Computed.{agree_test}
 use Rattle.board.specs.declared.Part.{Part}
 use Rattle.board.specs.declared.Part.TheVariants.{Ef9345, Ts9347}
@@ -48,95 +46,79 @@ module _ (shown : Shown) where
         sym (tgs_bits shown.part (is_set 7 shown.pat) shown.tgs h
         ∙ ap (λ (t : Bool). (leb 32 shown.tgs && not (has_eighty shown.part && eqb (shown.tgs / 32) 6)) || t) (pat_bit shown.pat k))
 
-    -- no mode
-    refused_tgs : 32 ≤ shown.tgs → (shown.tgs / 32 ≡ 6 → ⊥) → true ≡ refused7 shown
-    refused_tgs l n = sym (rw (le-leb 32 shown.tgs l, ne_eqb (shown.tgs / 32) 6 n, none shown.part)) ∙ refused_test
-      where
-        none : (part : Part) → (has_eighty part && false) ≡ false
-        none Ef9345 = refl
-        none Ts9347 = refl
-
-    -- nor 80 columns
-    refused_part : 32 ≤ shown.tgs → has_eighty shown.part ≡ false → true ≡ refused7 shown
-    refused_part l e = sym (rw (le-leb 32 shown.tgs l, e)) ∙ refused_test
-
-    -- either mode
-    refused_eighty : 32 ≤ shown.tgs → shown.tgs / 32 ≡ 6 → has_eighty shown.part ≡ true → leb 128 shown.pat ≡ refused7 shown
-    refused_eighty l e has = sym (rw (le-leb 32 shown.tgs l, eq-eqb (shown.tgs / 32) 6 e, has)) ∙ refused_test
-
-    refused_forty : shown.tgs < 32 → leb 128 shown.pat ≡ refused7 shown
-    refused_forty l = sym (rw (lt-leb 32 shown.tgs l)) ∙ refused_test
-
     -- PAT 7, in every mode
-    refused_pat : 128 ≤ shown.pat → true ≡ refused7 shown
-    refused_pat l = sym (rw (le-leb 128 shown.pat l, every (leb 32 shown.tgs && not (has_eighty shown.part && eqb (shown.tgs / 32) 6)))) ∙ refused_test
-      where
-        every : (b : Bool) → (b || true) ≡ true
-        every true = refl
-        every false = refl
+    refused_pat : 128 ≤ shown.pat → refused7 shown ≡ true
+    refused_pat l = sym refused_test ∙ rw (le-leb 128 shown.pat l) (or-true (leb 32 shown.tgs && not (has_eighty shown.part && eqb (shown.tgs / 32) 6)))
+
+    -- without it, what TGS says of the mode
+    refused_mode : shown.pat < 128 → refused7 shown ≡ (leb 32 shown.tgs && not (has_eighty shown.part && eqb (shown.tgs / 32) 6))
+    refused_mode l =
+        sym refused_test ∙ rw (lt-leb 128 shown.pat l) (or-false (leb 32 shown.tgs && not (has_eighty shown.part && eqb (shown.tgs / 32) 6)))
 
     -- the length that 6 asks for, in the ways of the code
-    abbrev asks : ℕ → Type 0
-    asks n = n ≡ pick (refused7 shown) 0 (picture_bytes (column_bytes shown))
+    abbrev asked : Option ℕ
+    asked = pick (refused7 shown) None (Some (picture_bytes (column_bytes shown)))
 
-    nothing : refused7 shown ≡ true → asks 0
-    nothing e = rw e
+    pub asked_refused : 128 ≤ shown.pat → None ≡ asked
+    asked_refused l = rw (refused_pat l) refl
 
-    pub asks_forty : (n : ℕ) → n ≡ picture_bytes forty_bytes → shown.tgs < 32 → shown.pat < 128 → asks n
-    asks_forty n e l p =
-        let no = sym (refused_forty l) ∙ lt-leb 128 shown.pat p in
-        let forty = sym (forty_tgs shown (omega arith)) in
-        e ∙ rw (no, forty_bytes_lem shown forty)
+    pub asked_forty : shown.pat < 128 → shown.tgs / 32 ≡ 0 → Some (picture_bytes forty_bytes) ≡ asked
+    asked_forty l q =
+        let low : shown.tgs < 32 = omega (arith, q) in
+        rw (refused_mode l, lt-leb 32 shown.tgs low, forty_bytes_lem shown (sym (forty_tgs shown (omega arith)))) refl
 
-    pub asks_eighty :
-        (n : ℕ) → n ≡ picture_bytes eighty_bytes → 32 ≤ shown.tgs → shown.tgs / 32 ≡ 6 → shown.pat < 128 → has_eighty shown.part ≡ true → asks n
-    asks_eighty n e l d p has =
-        let no = sym (refused_eighty l d has) ∙ lt-leb 128 shown.pat p in
-        let eighty = sym (eighty_part shown (omega arith) h) ∙ has in
-        e ∙ rw (no, eighty_bytes_lem shown eighty)
+    module _ (l : shown.pat < 128) (six : shown.tgs / 32 ≡ 6) where
+      high : 192 ≤ shown.tgs
+      high = omega (arith, six)
 
-    pub asks_no_mode : 32 ≤ shown.tgs → (shown.tgs / 32 ≡ 6 → ⊥) → asks 0
-    asks_no_mode l n = nothing (sym (refused_tgs l n))
+      refused_six : refused7 shown ≡ not (has_eighty shown.part && true)
+      refused_six = rw (refused_mode l, le-leb 32 shown.tgs (omega (arith, high)), eq-eqb (shown.tgs / 32) 6 six)
 
-    pub asks_no_eighty : 32 ≤ shown.tgs → has_eighty shown.part ≡ false → asks 0
-    asks_no_eighty l e = nothing (sym (refused_part l e))
+      pub asked_eighty : shown.part ≡ Ef9345 → Some (picture_bytes eighty_bytes) ≡ asked
+      asked_eighty part =
+          let has : has_eighty shown.part ≡ true = ap has_eighty part in
+          rw (refused_six, eighty_bytes_lem shown (sym (eighty_part shown high h) ∙ has), has) refl
 
-    pub asks_refused : 128 ≤ shown.pat → asks 0
-    asks_refused p = nothing (sym (refused_pat p))
+      pub asked_no_eighty : shown.part ≡ Ts9347 → None ≡ asked
+      asked_no_eighty part = rw (refused_six, part) refl
 
-  -- no picture is of length 0, so 0 says 7
-  some_length : 0 < picture_bytes (column_bytes shown)
-  some_length = pick_known (λ (k : ℕ). 0 < picture_bytes k) (is_eighty shown) eighty_bytes forty_bytes (λ e. omega arith) (λ e. omega arith)
+    pub asked_no_mode : shown.pat < 128 → (shown.tgs / 32 ≡ 0 → ⊥) → (shown.tgs / 32 ≡ 6 → ⊥) → None ≡ asked
+    asked_no_mode l z n =
+        let high : 32 ≤ shown.tgs = omega (arith, z) in
+        rw (refused_mode l, le-leb 32 shown.tgs high, ne_eqb (shown.tgs / 32) 6 n, and-false (has_eighty shown.part)) refl
 
-  module _ (n : ℕ) (learnt : n ≡ pick (refused7 shown) 0 (picture_bytes (column_bytes shown))) where
-    pub asked_test : eqb n 0 ≡ refused7 shown
-    asked_test = go (refused7 shown) learnt
-      where
-        go : (b : Bool) → n ≡ pick b 0 (picture_bytes (column_bytes shown)) → eqb n 0 ≡ b
-        go true e = eq-eqb n 0 e
-        go false e = ne_eqb n 0 (λ z. omega (arith, e, some_length))
+  -- what a caller learns from the length that 6 asks for
+  pub asked_none : None ≡ pick (refused7 shown) None (Some (picture_bytes (column_bytes shown))) → refused7 shown ≡ true
+  asked_none e = go (refused7 shown) e
+    where
+      go : (b : Bool) → None ≡ pick b None (Some (picture_bytes (column_bytes shown))) → b ≡ true
+      go true e = refl
+      go false e = cc
 
-    pub asked_none : n ≡ 0 → refused7 shown ≡ true
-    asked_none e = sym asked_test ∙ eq-eqb n 0 e
+  module _ (n : ℕ) (learnt : Some n ≡ pick (refused7 shown) None (Some (picture_bytes (column_bytes shown)))) where
+    both : (b : Bool) → Some n ≡ pick b None (Some (picture_bytes (column_bytes shown))) → (b ≡ false) × (n ≡ picture_bytes (column_bytes shown))
+    both true e = cc
+    both false e = (refl, cc)
 
-    pub asked_some : (n ≡ 0 → ⊥) → refused7 shown ≡ false
-    asked_some e = sym asked_test ∙ ne_eqb n 0 e
+    pub asked_some : refused7 shown ≡ false
+    asked_some = (both (refused7 shown) learnt).0
 
-    pub asked_length : (n ≡ 0 → ⊥) → n ≡ picture_bytes (column_bytes shown)
-    asked_length e = learnt ∙ rw (asked_some e)
+    pub asked_length : n ≡ picture_bytes (column_bytes shown)
+    asked_length = (both (refused7 shown) learnt).1
+
+  pub none_asked :
+      (r : Option ℕ) → r ≡ pick (refused7 shown) None (Some (picture_bytes (column_bytes shown))) → (b : Bool) → is_some r ≡ not b → b ≡ refused7 shown
+  none_asked r e b i = go (refused7 shown) e b i
+    where
+      go : (t : Bool) → r ≡ pick t None (Some (picture_bytes (column_bytes shown))) → (b : Bool) → is_some r ≡ not b → b ≡ t
+      go true e true i = refl
+      go true e false i = cc
+      go false e true i = cc
+      go false e false i = refl
 
   pub low_origin : (yor : ℕ) → yor ≡ yor_of shown → ltb yor 8 ≡ refused8 shown
   unfolding refused8
   low_origin yor e = ap (λ (n : ℕ). ltb n 8) e
-
-  module _ (seven : Bool) (learnt : seven ≡ refused7 shown) where
-    pub draw_refused : seven ≡ true → false ≡ can_draw shown
-    unfolding can_draw
-    draw_refused e = rw (sym learnt ∙ e)
-
-    pub draw_asked : (eight : Bool) → eight ≡ refused8 shown → seven ≡ false → not eight ≡ can_draw shown
-    unfolding can_draw
-    draw_asked eight l e = rw (sym learnt ∙ e, l)
 
 -- what decides whether a draw would get 7 or 8
 pub can_draw_same : (a b : Shown) → a.tgs ≡ b.tgs → a.part ≡ b.part → a.pat ≡ b.pat → a.ror ≡ b.ror → can_draw a ≡ can_draw b

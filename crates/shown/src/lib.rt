@@ -3,12 +3,11 @@
 
 pub mod length;
 
-ghost use Rattle.std.specs.Prelude.{◌≡◌, eqb};
+ghost use Rattle.std.specs.Prelude.{◌≡◌};
 ghost use Rattle.basics.specs.Choice.{pick};
-ghost use Rattle.board.specs.Boards.{part_number};
 ghost use Rattle.shown.specs.Modes.{is_eighty, column_bytes};
 ghost use Rattle.shown.specs.Lengths.{rom_bytes, picture_bytes};
-ghost use Rattle.shown.specs.Origins.{yor_of, first_block};
+ghost use Rattle.shown.specs.Origins.{yor_of, highest_bit, first_block};
 ghost use Rattle.shown.specs.Refusals.{refused7, refused8, can_draw};
 
 use crate::length::{EIGHTY_PICTURE_BYTES, PICTURE_BYTES, ROM_BYTES, TS9347_ROM_BYTES};
@@ -27,62 +26,36 @@ pub struct Shown {
     pub blocks: u8,
 }
 
-// Whether a part's page has a Z4, which is DOR 7.
-fn has_z4(part: Part) -> bool
-    ensures { result ≡ eqb (part_number part) 1 }
-{
-    match part {
-        Part::Ef9345 => false,
-        Part::Ts9347 => true,
-    }
-}
-
 impl Shown {
     // TGS bits 7 and 6 both set, of an EF9345. TGS is asked first: in 40 columns it tells by itself.
     pub fn is_eighty(self) -> bool
         ensures { result ≡ is_eighty self }
     {
-        if self.tgs < 192 {
-            return false;
-        }
-        let part = self.part;
-        match part {
-            Part::Ef9345 => true,
-            Part::Ts9347 => false,
-        }
+        let both_set = 192 <= self.tgs;
+        both_set && self.part == Part::Ef9345
     }
 
     // The length that 5 asks for.
     pub fn rom_asked(self) -> usize
         ensures { result ≡ rom_bytes self.part }
     {
-        let part = self.part;
-        match part {
+        match self.part {
             Part::Ef9345 => ROM_BYTES,
             Part::Ts9347 => TS9347_ROM_BYTES,
         }
     }
 
-    // The length that 6 asks for: that of the mode, or 0 where 7 comes first. One way through for each mode, so that a draw asks for both at once.
-    pub fn picture_asked(self) -> usize
-        ensures { result ≡ pick (refused7 self) 0 (picture_bytes (column_bytes self)) }
+    // The length that 6 asks for, that of the mode; none where 7 comes first.
+    pub fn picture_asked(self) -> Option<usize>
+        ensures { result ≡ pick (refused7 self) None (Some (picture_bytes (column_bytes self))) }
     {
-        if self.tgs < 32 {
-            if 128 <= self.pat {
-                return 0;
-            }
-            return PICTURE_BYTES;
-        }
-        if self.tgs / 32 != 6 {
-            return 0;
-        }
         if 128 <= self.pat {
-            return 0;
+            return None;
         }
-        let part = self.part;
-        match part {
-            Part::Ef9345 => EIGHTY_PICTURE_BYTES,
-            Part::Ts9347 => 0,
+        match (self.tgs / 32, self.part) {
+            (0, _) => Some(PICTURE_BYTES),
+            (6, Part::Ef9345) => Some(EIGHTY_PICTURE_BYTES),
+            _ => None,
         }
     }
 
@@ -93,18 +66,27 @@ impl Shown {
         self.ror % 32
     }
 
+    // Z4 of the first block: DOR 7, of a TS9347.
+    fn z4(self) -> u8
+        ensures { result ≡ highest_bit self.part self.dor }
+    {
+        match self.part {
+            Part::Ef9345 => 0,
+            Part::Ts9347 => self.dor / 128,
+        }
+    }
+
     // The first block of the page.
     pub fn first_block(self) -> u8
         ensures { result ≡ first_block self }
     {
-        let part = self.part;
-        ((128 <= self.dor) & has_z4(part)) as u8 * 16 + self.ror / 32 * 2
+        16 * self.z4() + self.ror / 32 * 2
     }
 
     pub fn is_refused_7(self) -> bool
         ensures { result ≡ refused7 self }
     {
-        self.picture_asked() == 0
+        self.picture_asked().is_none()
     }
 
     pub fn is_refused_8(self) -> bool
@@ -114,12 +96,10 @@ impl Shown {
     }
 
     // A draw would get neither 7 nor 8.
+    #[tactic(auto, unfolding(crate::specs::Refusals::can_draw))]
     pub fn can_draw(self) -> bool
         ensures { result ≡ can_draw self }
     {
-        if self.is_refused_7() {
-            return false;
-        }
-        !self.is_refused_8()
+        !self.is_refused_7() && !self.is_refused_8()
     }
 }

@@ -1,14 +1,9 @@
-use mathlib.Core.Path.{sym, ap, ◌∙◌}
-use Rattle.shown.specs.Modes.{has_eighty}
-use native.Mathlib.Omega.{arith}
-use Rattle.shown.proofs.Modes.{forty_tgs, eighty_part}
+use Rattle.std.proofs.Common.{arith}
+use Rattle.shown.proofs.Modes.{eighty_asked, forty_asked}
 use Rattle.shown.proofs.Shown.is_eighty.Goals as goal
 
-pub returns-then-self-lt192 : goal.returns-then-self-lt192
-returns-then-self-lt192 c = forty_tgs _ (omega arith)
+pub returns-then-both_set : goal.returns-then-both_set
+returns-then-both_set c = eighty_asked c.args.self c.if-both_set.true (omega arith) _ c.eq.ensures
 
-pub returns-in-Ef9345 : goal.returns-in-Ef9345
-returns-in-Ef9345 c = ap has_eighty (sym c.in-Ef9345.is) ∙ eighty_part _ (omega arith) (omega arith)
-
-pub returns-in-Ts9347 : goal.returns-in-Ts9347
-returns-in-Ts9347 c = ap has_eighty (sym c.in-Ts9347.is) ∙ eighty_part _ (omega arith) (omega arith)
+pub returns-else-both_set : goal.returns-else-both_set
+returns-else-both_set c = forty_asked c.args.self c.if-both_set.false

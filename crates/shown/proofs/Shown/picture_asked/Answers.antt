@@ -1,23 +1,18 @@
-use mathlib.Core.Path.{ap}
-use Rattle.shown.specs.Modes.{has_eighty}
-use native.Mathlib.Omega.{arith}
-use Rattle.shown.proofs.Refusals.{asks_forty, asks_eighty, asks_no_mode, asks_no_eighty, asks_refused}
+use Rattle.std.proofs.Common.{arith}
+use Rattle.shown.proofs.Refusals.{asked_refused, asked_forty, asked_eighty, asked_no_eighty, asked_no_mode}
 use Rattle.shown.proofs.Shown.picture_asked.Goals as goal
 
 pub returns-then-self-ge128 : goal.returns-then-self-ge128
-returns-then-self-ge128 c = asks_refused _ (omega arith) (omega arith) (omega arith)
+returns-then-self-ge128 c = asked_refused c.args.self (omega arith) (omega arith) (omega arith)
 
-pub returns-then-self-lt32 : goal.returns-then-self-lt32
-returns-then-self-lt32 c = asks_forty _ (omega arith) (omega arith) _ (omega arith) (omega arith) (omega arith)
+pub returns-in-0-default : goal.returns-in-0-default
+returns-in-0-default c = asked_forty c.args.self (omega arith) (omega arith) (omega arith) c.in-0-default.is-0
 
-pub returns-then-self-ne6 : goal.returns-then-self-ne6
-returns-then-self-ne6 c = asks_no_mode _ (omega arith) (omega arith) (omega arith) c.if-self-ne6.true
+pub returns-in-6-Ef9345 : goal.returns-in-6-Ef9345
+returns-in-6-Ef9345 c = asked_eighty c.args.self (omega arith) (omega arith) (omega arith) c.in-6-Ef9345.is-0 c.in-6-Ef9345.is-1
 
-pub returns-then-self-ge128-2 : goal.returns-then-self-ge128-2
-returns-then-self-ge128-2 c = asks_refused _ (omega arith) (omega arith) (omega arith)
+pub returns-in_default : goal.returns-in_default
+returns-in_default c = asked_no_eighty c.args.self (omega arith) (omega arith) (omega arith) c.in_default.is-0 c.in_default.is-1
 
-pub returns-in-Ef9345 : goal.returns-in-Ef9345
-returns-in-Ef9345 c = asks_eighty _ (omega arith) (omega arith) _ (omega arith) (omega arith) (omega arith) (omega arith) (ap has_eighty c.in-Ef9345.is)
-
-pub returns-in-Ts9347 : goal.returns-in-Ts9347
-returns-in-Ts9347 c = asks_no_eighty _ (omega arith) (omega arith) (omega arith) (ap has_eighty c.in-Ts9347.is)
+pub returns-in_default-2 : goal.returns-in_default-2
+returns-in_default-2 c = asked_no_mode c.args.self (omega arith) (omega arith) (omega arith) c.in_default.is-0.0.1 c.in_default.is-0.1
