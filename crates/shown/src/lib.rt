@@ -2,6 +2,7 @@
 #![tactic(auto)]
 
 pub mod length;
+pub mod page;
 
 ghost use Rattle.std.specs.Prelude.{◌≡◌};
 ghost use Rattle.basics.specs.Choice.{pick};

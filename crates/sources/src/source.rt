@@ -14,6 +14,7 @@ use address::place::place_at;
 use address::triple::is_legal_y;
 use board::Part;
 use shown::Shown;
+use shown::page::{Page, Scene};
 use std::array;
 
 #[derive(Clone, Copy)]
@@ -81,16 +82,14 @@ fn read_slices(memory: &[u8], c: u8, z: u8) -> [u8; 10]
     })
 }
 
-// The ten slices of a character in private memory of a board of so many blocks: 0 where no byte is read. They have one Y, so that one test of it tells
-// it for all of them.
-pub fn kept_slices(memory: &[u8], blocks: u8, c: u8, z: u8) -> [u8; 10]
-    requires { length memory.now ≡ bytes_of blocks }
-    ensures { result ≡ table (kept_slice blocks memory.now c z) 10 }
+// The ten slices of a character in private memory: 0 where no byte is read. They have one Y, so that one test of it tells it for all of them.
+pub fn kept_slices(page: &Page, c: u8, z: u8) -> [u8; 10]
+    ensures { result ≡ table (kept_slice page.now.shown.blocks page.now.memory.now c z) 10 }
 {
     if !is_legal_y(c / 4 % 32) {
         return [0; 10];
     }
-    read_slices(memory, c, z)
+    read_slices(page.memory, c, z)
 }
 
 // The ten slices of a character stand side by side in the ROM.
@@ -105,14 +104,13 @@ pub fn rom_slices(rom: &[u8], c: u8, set: u8) -> [u8; 10]
 }
 
 // The ten slices of the cell of a code.
-pub fn slices_of(memory: &[u8], rom: &[u8], shown: Shown, code: [u8; 3]) -> [u8; 10]
-    requires { (length memory.now ≡ bytes_of shown.blocks) × (length rom.now ≡ rom_bytes shown.part) }
-    ensures { result ≡ table (slices_of memory.now rom.now shown (cell_of shown.part (get_or code 0 0) (get_or code 1 0) (get_or code 2 0))) 10 }
+pub fn slices_of(scene: &Scene, code: [u8; 3]) -> [u8; 10]
+    ensures { result ≡ table (slices_of scene.now.page.memory.now scene.now.rom.now scene.now.page.shown
+        (cell_of scene.now.page.shown.part (get_or code 0 0) (get_or code 1 0) (get_or code 2 0))) 10 }
 {
     let c = code[0];
-    let source = source_of(shown, code);
-    match source {
-        Source::Rom(set) => rom_slices(rom, c, set),
-        Source::Block(z) => kept_slices(memory, shown.blocks, c, z),
+    match source_of(scene.page.shown, code) {
+        Source::Rom(set) => rom_slices(scene.rom, c, set),
+        Source::Block(z) => kept_slices(&scene.page, c, z),
     }
 }

@@ -2,13 +2,12 @@ use Rattle.sources.proofs.SliceSources.{slices_none, slices_read}
 use Rattle.basics.specs.Parts.{joined}
 use mathlib.Core.Path.{◌∙◌}
 use native.Mathlib.Omega.{arith}
-use borrow.Author.Rules.{rules}
 use Rattle.sources.proofs.source.kept_slices.Goals as goal
 
 pub returns-then-not-is_legal_y : goal.returns-then-not-is_legal_y
 unfolding joined
-returns-then-not-is_legal_y c = slices_none c.args.blocks c.args.memory.now c.args.c c.args.z _ _ (omega arith) c.is_legal_y.ensures c.if-not-is_legal_y.true
+returns-then-not-is_legal_y c = slices_none c.args.page.now.shown.blocks c.args.page.now.memory.now c.args.c c.args.z _ _ (omega arith) c.is_legal_y.ensures c.if-not-is_legal_y.true
 
 pub returns : goal.returns
 returns c = c.read_slices.ensures
-    ∙ slices_read c.args.blocks c.args.memory.now c.args.c c.args.z _ _ (omega arith) c.is_legal_y.ensures c.if-not-is_legal_y.false (search rules)
+    ∙ slices_read c.args.page.now.shown.blocks c.args.page.now.memory.now c.args.c c.args.z _ _ (omega arith) c.is_legal_y.ensures c.if-not-is_legal_y.false c.args.page.now.memory_whole

@@ -1,0 +1,24 @@
+// What a page is drawn from.
+ghost use Rattle.std.specs.Prelude.{◌≡◌, length};
+ghost use Rattle.board.specs.Boards.{bytes_of};
+ghost use Rattle.shown.specs.Lengths.{rom_bytes};
+
+use crate::Shown;
+
+// Private memory, and what the page is drawn by.
+#[derive(Clone, Copy)]
+pub struct Page<'a> {
+    pub memory: &'a [u8],
+    pub shown: Shown,
+    // The bytes of all its blocks, and no more.
+    ghost memory_whole: { length memory.now ≡ bytes_of shown.blocks },
+}
+
+// The same, with the character ROM.
+#[derive(Clone, Copy)]
+pub struct Scene<'a> {
+    pub page: Page<'a>,
+    pub rom: &'a [u8],
+    // All the bytes of the part's ROM, and no more.
+    ghost rom_whole: { length rom.now ≡ rom_bytes page.shown.part },
+}
