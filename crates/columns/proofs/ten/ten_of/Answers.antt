@@ -1,18 +1,22 @@
 use Rattle.page.specs.Inputs.{decoded}
+use Rattle.columns.proofs.PlainCells.{plain_ten}
 use Rattle.columns.proofs.Tens.{ten_wide, ten_whole, wide_code}
 use mathlib.Core.Path.{sym, ◌∙◌}
 use borrow.Author.Rules.{rules}
 use Rattle.columns.proofs.ten.ten_of.Goals as goal
 
+pub returns-then-is_plain : goal.returns-then-is_plain
+returns-then-is_plain c = let s = c.args.scene.now in
+    plain_ten s.page.memory.now s.rom.now s.page.shown c.args.code (sym c.is_plain.ensures ∙ c.if-is_plain.true) c.args.lower c.args.right _ c.slices_of-slices.ensures (search rules)
+
 pub returns-then-is_wide : goal.returns-then-is_wide
-returns-then-is_wide c = let a = c.args in
-    let cell = decoded a.shown.part a.code in
+returns-then-is_wide c = let s = c.args.scene.now in
+    let cell = decoded s.page.shown.part c.args.code in
     c.doubled_slices.ensures
-    ∙ ten_wide a.memory.now a.rom.now a.shown cell a.lower a.right _ _ c.shown_slices-slices.ensures c.slices_of.ensures (sym (c.is_wide.ensures ∙ wide_code a.shown.part a.code) ∙ c.if-is_wide.true)
+    ∙ ten_wide s.page.memory.now s.rom.now s.page.shown cell c.args.lower c.args.right _ _ c.shown_slices-ten.ensures c.slices_of-slices.ensures (sym (c.is_wide.ensures ∙ wide_code s.page.shown.part c.args.code) ∙ c.if-is_wide.true)
 
 pub returns : goal.returns
-returns c = let a = c.args in
-    let cell = decoded a.shown.part a.code in
-    ten_whole a.memory.now a.rom.now a.shown cell a.lower a.right _ _ c.shown_slices-slices.ensures c.slices_of.ensures
-    (λ i. (c.type_inv.memory i).fits) (λ i. (c.type_inv.rom i).fits) (search rules)
-    (sym (c.is_wide.ensures ∙ wide_code a.shown.part a.code) ∙ c.if-is_wide.false)
+returns c = let s = c.args.scene.now in
+    let cell = decoded s.page.shown.part c.args.code in
+    ten_whole s.page.memory.now s.rom.now s.page.shown cell c.args.lower c.args.right _ _ c.shown_slices-ten.ensures c.slices_of-slices.ensures (search rules) (search rules)
+    (sym (c.is_wide.ensures ∙ wide_code s.page.shown.part c.args.code) ∙ c.if-is_wide.false)
