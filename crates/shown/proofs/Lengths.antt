@@ -9,7 +9,9 @@ use lib.ListN.{length, drop, length-drop}
 use lib.Seq.{length-take-le}
 use Rattle.basics.specs.Parts.{joined, part_of}
 use Rattle.basics.proofs.Parts.{Each, length_joined}
-use Rattle.shown.specs.Lengths.{line_bytes, row_bytes, picture_bytes}
+use Rattle.board.specs.declared.Part.{Part}
+use Rattle.board.specs.declared.Part.TheVariants.{Ef9345, Ts9347}
+use Rattle.shown.specs.Lengths.{rom_bytes, line_bytes, row_bytes, picture_bytes}
 
 module _ (k : ℕ) where
   pub columns_long : (column : ℕ → List ℕ) → Each k column 40 → length (joined column 40) ≡ line_bytes k
@@ -26,3 +28,11 @@ module _ (k : ℕ) where
   part_long picture r h l =
       let below : row_bytes k * r + row_bytes k ≤ row_bytes k * 25 = rw (← mul-suc) (mul-le-mul_left (row_bytes k) l) in
       length-take-le (row_bytes k) (drop (row_bytes k * r) picture) (rw length-drop (omega arith))
+
+-- a ROM has at least the first of its sets
+pub rom_least : (part : Part) → 1280 ≤ rom_bytes part
+rom_least Ef9345 = omega arith
+rom_least Ts9347 = omega arith
+
+pub rom_reaches : (part : Part) (rom : List ℕ) → length rom ≡ rom_bytes part → 1280 ≤ length rom
+rom_reaches part rom e = omega (arith, e, rom_least part)
