@@ -2,7 +2,7 @@
 -- Assumes nothing.
 use Prim.Native.Nat.{ℕ, ◌+◌, ◌/◌, ◌%◌, ◌<◌}
 use mathlib.Core.Path.{◌≡◌, refl, sym, ◌∙◌}
-use mathlib.Core.List.{List, [], ◌∷◌}
+use mathlib.Core.List.{List}
 use native.Mathlib.Omega.{arith}
 use lib.Dec.{eqb}
 use lib.ListN.{length, get_or}
@@ -47,22 +47,19 @@ pub pairs_back : (cell : Cell) (shown : Shown) → from_steps (steps_of (cell_pa
 pairs_back cell shown = steps_back (cell_pairs cell shown) (pairs_four cell shown) (pair_small cell shown)
 
 -- one of four pairs, by two bits: from no bit or the right pixel's, with the step where the left pixel's is set
-module _ (by none left right both r : ℕ) where
-  abbrev listed : List ℕ
-  listed = none ∷ left ∷ right ∷ both ∷ []
-
-  pub chosen_low : r ≡ pick (eqb (by % 2) 1) ((none + left) % 256) none → (by / 2 % 2 ≡ 1 → ⊥) → r ≡ get_or (from_steps listed) (by % 4) 0
+module _ (by r : ℕ) (steps : List ℕ) where
+  pub chosen_low : r ≡ pick (eqb (by % 2) 1) ((get_or steps 0 0 + get_or steps 1 0) % 256) (get_or steps 0 0) → (by / 2 % 2 ≡ 1 → ⊥) → r ≡ get_or (from_steps steps) (by % 4) 0
   unfolding from_steps
   chosen_low e n =
       e
-      ∙ pick_known (λ (b : ℕ). b ≡ get_or (from_steps listed) (by % 4) 0) (eqb (by % 2) 1) _ _
+      ∙ pick_known (λ (b : ℕ). b ≡ get_or (from_steps steps) (by % 4) 0) (eqb (by % 2) 1) _ _
       (λ t. let q : by % 4 ≡ 1 = omega (arith, eqb-true (by % 2) 1 t, n) in rw q)
       (λ t. let q : by % 4 ≡ 0 = omega (arith, eqb-false (by % 2) 1 t, n) in rw q)
 
-  pub chosen_high : r ≡ pick (eqb (by % 2) 1) ((right + both) % 256) right → by / 2 % 2 ≡ 1 → r ≡ get_or (from_steps listed) (by % 4) 0
+  pub chosen_high : r ≡ pick (eqb (by % 2) 1) ((get_or steps 2 0 + get_or steps 3 0) % 256) (get_or steps 2 0) → by / 2 % 2 ≡ 1 → r ≡ get_or (from_steps steps) (by % 4) 0
   unfolding from_steps
   chosen_high e h =
       e
-      ∙ pick_known (λ (b : ℕ). b ≡ get_or (from_steps listed) (by % 4) 0) (eqb (by % 2) 1) _ _
+      ∙ pick_known (λ (b : ℕ). b ≡ get_or (from_steps steps) (by % 4) 0) (eqb (by % 2) 1) _ _
       (λ t. let q : by % 4 ≡ 3 = omega (arith, eqb-true (by % 2) 1 t) in rw q)
       (λ t. let q : by % 4 ≡ 2 = omega (arith, eqb-false (by % 2) 1 t) in rw q)

@@ -11,7 +11,7 @@ use shown::Shown;
 fn step_to(a: u8, b: u8) -> u8
     ensures { result ≡ step_to a b }
 {
-    ((256 + b as u16 - a as u16) % 256) as u8
+    b.wrapping_sub(a)
 }
 
 // A line chooses between two pairs by adding the step or not, which takes fewer instructions than to choose between the pairs.

@@ -7,6 +7,7 @@ ghost use Rattle.lines.specs.HowLines.{lined_byte, lined_on, bytes_on};
 use board::Part;
 use cell::decode::decode;
 use pixels::height::is_underlined_on;
+use std::array;
 
 // A byte of line n, underlined where it is.
 pub fn lined(part: Part, code: [u8; 3], lower: bool, n: u8, byte: u8) -> u8
@@ -30,11 +31,7 @@ fn underlined(
     requires { n < 10 }
     ensures { result ≡ table (lined_on part cells lowers plain n) 40 }
 {
-    let mut bytes = [0u8; 40];
-    for x in 0..40 {
-        bytes[x] = lined(part, cells[x], lowers[x], n, plain[x]);
-    }
-    bytes
+    array::from_fn(|x| lined(part, cells[x], lowers[x], n, plain[x]))
 }
 
 // The byte of each cell of line n, not underlined yet.
@@ -42,10 +39,8 @@ fn plain_bytes(tens: &[u8; 400], n: usize) -> [u8; 40]
     requires { n < 10 }
     ensures { result ≡ table (byte_in tens.now n) 40 }
 {
-    let mut bytes = [0u8; 40];
-    for x in 0..40 {
-        bytes[x] = tens[40 * n + x];
-    }
+    let mut bytes = [0; 40];
+    bytes.copy_from_slice(&tens[40 * n..40 * n + 40]);
     bytes
 }
 

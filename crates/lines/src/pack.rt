@@ -12,44 +12,42 @@ fn stepped(set: bool, byte: u8, step: u8) -> u8
     ensures { result ≡ pick set ((byte + step) % 256) byte }
 {
     let more = if set { step } else { 0 };
-    ((byte as u16 + more as u16) % 256) as u8
+    byte.wrapping_add(more)
 }
 
 // One of the four pairs, by the two lowest bits of a number: that of no bit, or of the right pixel's, with the step for the left pixel's. So
 // `left` is the step from `none`, and `both` that from `right`.
-fn chosen(by: u8, none: u8, left: u8, right: u8, both: u8) -> u8
-    ensures { result ≡ get_or (from_steps (none ∷ left ∷ right ∷ both ∷ [])) (by % 4) 0 }
+fn chosen(by: u8, steps: [u8; 4]) -> u8
+    ensures { result ≡ get_or (from_steps steps) (by % 4) 0 }
 {
+    let [none, left, right, both] = steps;
     let low = stepped(by % 2 == 1, none, left);
     let high = stepped(by % 2 == 1, right, both);
     if by / 2 % 2 == 1 { high } else { low }
 }
 
 // The four packed bytes of a cell.
-fn four(by: u8, none: u8, left: u8, right: u8, both: u8) -> [u8; 4]
-    ensures { result ≡ four_by by (from_steps (none ∷ left ∷ right ∷ both ∷ [])) }
+fn four(by: u8, steps: [u8; 4]) -> [u8; 4]
+    ensures { result ≡ four_by by (from_steps steps) }
 {
     [
-        chosen(by, none, left, right, both),
-        chosen(by / 4, none, left, right, both),
-        chosen(by / 16, none, left, right, both),
-        chosen(by / 64, none, left, right, both),
+        chosen(by, steps),
+        chosen(by / 4, steps),
+        chosen(by / 16, steps),
+        chosen(by / 64, steps),
     ]
 }
 
 // The packed bytes of the cells from `first` up to `end`, put in their places of a line that has those of the cells before them.
+// Each byte is stored by its index. A full redraw of text takes 63 percent more instructions where the cells are arrays made by `from_fn`, and
+// three times as many where each is copied by `copy_from_slice`: the compiler then makes no vectors of the loop.
 fn pack(line: &mut [u8; 160], bytes: [u8; 40], pairs: &[u8; 160], first: usize, end: usize)
-    requires { (length line.old ≡ line_bytes forty_bytes) × (first ≤ end) × (end ≤ 40) × (take (forty_bytes * first) line.old ≡ joined (four_of bytes pairs.now) first) }
+    requires { (first ≤ end) × (end ≤ 40) × (take (forty_bytes * first) line.old ≡ joined (four_of bytes pairs.now) first) }
     ensures { line.new ≡ joined (four_of bytes pairs.now) end ++ drop (forty_bytes * end) line.old }
 {
     for x in first..end {
-        let four = four(
-            bytes[x],
-            pairs[x],
-            pairs[40 + x],
-            pairs[80 + x],
-            pairs[120 + x],
-        );
+        let steps = [pairs[x], pairs[40 + x], pairs[80 + x], pairs[120 + x]];
+        let four = four(bytes[x], steps);
         let at = 4 * x;
         line[at] = four[0];
         line[at + 1] = four[1];

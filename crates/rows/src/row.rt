@@ -2,7 +2,7 @@
 ghost use Rattle.std.specs.Prelude.{◌≡◌, length};
 ghost use Rattle.basics.specs.Parts.{table, joined};
 ghost use Rattle.board.specs.Boards.{bytes_of};
-ghost use Rattle.shown.specs.Lengths.{rom_bytes, forty_bytes, line_bytes, row_bytes};
+ghost use Rattle.shown.specs.Lengths.{rom_bytes, forty_bytes, row_bytes};
 ghost use Rattle.page.specs.HowHalves.{right_in};
 ghost use Rattle.lines.specs.HowLines.{line_on};
 ghost use Rattle.rows.specs.Rows.{painted};
@@ -15,17 +15,8 @@ use lines::line::line;
 use shown::Shown;
 use shown::length::LINE_BYTES;
 
-fn copy_line(lent: &mut [u8], line: [u8; 160])
-    requires { length lent.old ≡ line_bytes forty_bytes }
-    ensures { lent.new ≡ line }
-{
-    for i in 0..LINE_BYTES {
-        let byte = line[i];
-        lent[i] = byte;
-    }
-}
-
-// The ten lines, each built by value and then copied.
+// The ten lines, each built by value and then copied. They are found by their numbers: of a slice that was lent in parts by `chunks_exact_mut`
+// a proof knows its length, and not what stands in it.
 fn draw_lines(
     lent: &mut [u8],
     part: Part,
@@ -38,11 +29,9 @@ fn draw_lines(
     ensures { lent.new ≡ joined (line_on part cells lowers tens.now pairs.now) 10 }
 {
     for n in 0..10 {
+        let at = LINE_BYTES * n;
         let drawn = line(part, cells, lowers, tens, pairs, n);
-        copy_line(
-            &mut lent[LINE_BYTES * n..LINE_BYTES * n + LINE_BYTES],
-            drawn,
-        );
+        lent[at..at + LINE_BYTES].copy_from_slice(&drawn);
     }
 }
 

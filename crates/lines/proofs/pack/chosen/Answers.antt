@@ -2,7 +2,7 @@ use Rattle.columns.proofs.Steps.{chosen_low, chosen_high}
 use Rattle.lines.proofs.pack.chosen.Goals as goal
 
 pub returns-then-by-eq1 : goal.returns-then-by-eq1
-returns-then-by-eq1 c = let a = c.args in chosen_high a.by a.none a.left a.right a.both _ c.stepped-high.ensures c.if-by-eq1.true
+returns-then-by-eq1 c = chosen_high c.args.by _ c.args.steps c.stepped-high.ensures c.if-by-eq1.true
 
 pub returns-else-by-eq1 : goal.returns-else-by-eq1
-returns-else-by-eq1 c = let a = c.args in chosen_low a.by a.none a.left a.right a.both _ c.stepped-low.ensures c.if-by-eq1.false
+returns-else-by-eq1 c = chosen_low c.args.by _ c.args.steps c.stepped-low.ensures c.if-by-eq1.false

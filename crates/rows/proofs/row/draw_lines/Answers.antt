@@ -3,7 +3,6 @@ use Rattle.shown.specs.Lengths.{forty_bytes}
 use Rattle.lines.proofs.Drawn.{line_long}
 use native.Mathlib.Omega.{arith}
 use mathlib.Core.Path.{◌∙◌}
-use borrow.Author.Rules.{rules}
 use Rattle.rows.proofs.row.draw_lines.Goals as goal
 
 pub loop-n-init : goal.loop-n-init
@@ -11,7 +10,8 @@ loop-n-init c = no_lines _ _ _ c.requires
 
 pub loop-n-preserved : goal.loop-n-preserved
 loop-n-preserved c = let l = c.loop-n in
-    line_drawn forty_bytes _ (line_long _ _ _ _ _) l.lent l.n l.invariant (omega arith) c.copy_line.new.lent (c.copy_line.ensures ∙ c.line-drawn.ensures) (search rules)
+    let copied = c.copy_from_slice.ensures in
+    line_drawn forty_bytes _ (line_long _ _ _ _ _) l.lent l.n l.invariant (omega arith) _ (copied.after ∙ c.line-drawn.ensures) copied.len
 
 pub returns : goal.returns
-returns c = let l = c.loop-n in all_lines forty_bytes _ l.lent l.n l.invariant c.loop-n-test.false
+returns c = let l = c.loop-n in all_lines forty_bytes _ l.lent l.n l.invariant (omega arith)

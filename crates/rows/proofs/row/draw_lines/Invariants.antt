@@ -1,11 +1,7 @@
 use Rattle.shown.proofs.Lines.{LinesTo}
 use Rattle.shown.specs.Lengths.{forty_bytes}
 use Rattle.lines.specs.HowLines.{line_on}
-use Prim.Native.Nat.{◌-◌}
 use Rattle.rows.proofs.row.draw_lines.Given as goal
 
 abbrev pub invariant-loop-n : goal.invariant-loop-n
 invariant-loop-n l = LinesTo forty_bytes (line_on l.part l.cells l.lowers l.tens l.pairs) l.lent l.n
-
-abbrev pub decreases-loop-n : goal.decreases-loop-n
-decreases-loop-n l = 10 - l.n
