@@ -2,3 +2,4 @@ pub mod Columns
 pub mod Tens
 pub mod Steps
 pub mod PlainCells
+pub mod SmallSlices

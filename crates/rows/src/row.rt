@@ -1,8 +1,7 @@
 // The row drawer: the ten lines of a row, drawn in the part of the picture that is lent for it.
 ghost use Rattle.std.specs.Prelude.{◌≡◌, length};
 ghost use Rattle.basics.specs.Parts.{table, joined};
-ghost use Rattle.board.specs.Boards.{bytes_of};
-ghost use Rattle.shown.specs.Lengths.{rom_bytes, forty_bytes, row_bytes};
+ghost use Rattle.shown.specs.Lengths.{forty_bytes, row_bytes};
 ghost use Rattle.page.specs.HowHalves.{right_in};
 ghost use Rattle.lines.specs.HowLines.{line_on};
 ghost use Rattle.rows.specs.Rows.{painted};
@@ -12,8 +11,8 @@ use board::Part;
 use columns::pairs::pairs_of;
 use columns::ten::tens_of;
 use lines::line::line;
-use shown::Shown;
 use shown::length::LINE_BYTES;
+use shown::page::Scene;
 
 // The ten lines, each built by value and then copied. They are found by their numbers: of a slice that was lent in parts by `chunks_exact_mut`
 // a proof knows its length, and not what stands in it.
@@ -38,18 +37,16 @@ fn draw_lines(
 // A row in its part of the picture, from its row buffer and its halves.
 pub fn draw_row(
     lent: &mut [u8],
-    memory: &[u8],
-    rom: &[u8],
-    shown: Shown,
+    scene: &Scene,
     cells: [[u8; 3]; 40],
     lowers: [bool; 40],
     rights: [bool; 40],
 )
-    requires { (length lent.old ≡ row_bytes forty_bytes) × (length memory.now ≡ bytes_of shown.blocks) × (length rom.now ≡ rom_bytes shown.part) × (rights ≡ table (right_in cells) 40) }
-    ensures { lent.new ≡ painted rom.now shown (inputs_of memory.now shown cells lowers) }
+    requires { (length lent.old ≡ row_bytes forty_bytes) × (rights ≡ table (right_in cells) 40) }
+    ensures { lent.new ≡ painted scene.now.rom.now scene.now.page.shown (inputs_of scene.now.page.memory.now scene.now.page.shown cells lowers) }
 {
-    let tens = tens_of(memory, rom, shown, cells, lowers, rights);
+    let shown = scene.page.shown;
+    let tens = tens_of(scene, cells, lowers, rights);
     let pairs = pairs_of(cells, shown);
-    let part = shown.part;
-    draw_lines(lent, part, cells, lowers, &tens, &pairs);
+    draw_lines(lent, shown.part, cells, lowers, &tens, &pairs);
 }

@@ -1,7 +1,8 @@
-// What a page is drawn from.
+// What a page is drawn from. That its bytes are bytes is written out, since a proof does not know it of a slice that stands in a struct.
 ghost use Rattle.std.specs.Prelude.{◌≡◌, length};
 ghost use Rattle.board.specs.Boards.{bytes_of};
 ghost use Rattle.shown.specs.Lengths.{rom_bytes};
+ghost use Rattle.shown.specs.Bytes.{AreBytes};
 
 use crate::Shown;
 
@@ -12,6 +13,7 @@ pub struct Page<'a> {
     pub shown: Shown,
     // The bytes of all its blocks, and no more.
     ghost memory_whole: { length memory.now ≡ bytes_of shown.blocks },
+    ghost memory_of_bytes: { AreBytes memory.now },
 }
 
 // The same, with the character ROM.
@@ -21,4 +23,5 @@ pub struct Scene<'a> {
     pub rom: &'a [u8],
     // All the bytes of the part's ROM, and no more.
     ghost rom_whole: { length rom.now ≡ rom_bytes page.shown.part },
+    ghost rom_of_bytes: { AreBytes rom.now },
 }
