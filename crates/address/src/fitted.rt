@@ -10,7 +10,7 @@ use crate::position::attributes_at;
 use crate::triple::Triple;
 
 // Whether the board has the four blocks of the district of Z.
-fn has_district(blocks: u8, z: u8) -> bool
+pub fn has_district(blocks: u8, z: u8) -> bool
     ensures { result ≡ nat_lt (z / 4 * 4 + 3) blocks }
 {
     z / 4 * 4 + 3 < blocks
