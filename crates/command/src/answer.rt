@@ -1,11 +1,15 @@
-// Answers by number.
-ghost use Rattle.std.specs.Prelude.{◌≡◌};
+// The answers: each is a Result, and its error is a refusal. The page gives an answer a number, 0 where nothing is refused, and a value.
+ghost use Rattle.std.specs.Prelude.{◌≡◌, ℕ, Err};
 ghost use Rattle.command.specs.Answers.{number_of, value_of, power_number_of, draw_number_of, rows_of};
+ghost use Rattle.command.specs.declared.answer.BoardRefusal.{BoardRefusal};
+
+use board::UnknownPart;
 
 // Of an access, a phase change or a step, with the value where it has one.
-#[derive(Clone, Copy)]
-pub enum Answer {
-    Accepted(u8),
+pub type Answer = Result<u8, Refusal>;
+
+#[derive(Clone, Copy, Debug, PartialEq, Eq)]
+pub enum Refusal {
     // 1: private memory is not 1,024 bytes for each block of the board.
     WrongMemory,
     // 2: the address's high four bits are not 2.
@@ -23,19 +27,29 @@ pub enum Answer {
 }
 
 // Of a power-up.
-#[derive(Clone, Copy)]
-pub enum PowerUp {
-    Accepted,
+pub type PowerUp = Result<(), BoardRefusal>;
+
+#[derive(Clone, Copy, Debug, PartialEq, Eq)]
+pub enum BoardRefusal {
     // 12: the number of blocks is not 2, 8 or 16, or 32 of a TS9347.
     WrongBoard,
     // 14: the part is neither an EF9345 nor a TS9347.
     UnknownPart,
 }
 
+impl From<UnknownPart> for BoardRefusal {
+    ghost from_gives = { λ error refusal. refusal ≡ BoardRefusal.UnknownPart };
+
+    fn from(_error: UnknownPart) -> BoardRefusal {
+        BoardRefusal::UnknownPart
+    }
+}
+
 // Of a draw, with the number of rows.
-#[derive(Clone, Copy)]
-pub enum Drawing {
-    Accepted(usize),
+pub type Drawing = Result<usize, DrawRefusal>;
+
+#[derive(Clone, Copy, Debug, PartialEq, Eq)]
+pub enum DrawRefusal {
     // 1: private memory is not 1,024 bytes for each block of the board.
     WrongMemory,
     // 5: ROM is not 6,400 bytes, or 3,840 of a TS9347.
@@ -48,74 +62,122 @@ pub enum Drawing {
     LowOrigin,
 }
 
-impl Answer {
-    pub fn number(self) -> u8
-        ensures { result ≡ number_of self }
+impl Refusal {
+    fn number(self) -> u8
+        ensures { result ≡ number_of (Err self) }
     {
         match self {
-            Answer::Accepted(_) => 0,
-            Answer::WrongMemory => 1,
-            Answer::WrongAddress => 2,
-            Answer::NotListed(_) => 3,
-            Answer::BadPointer(_) => 4,
-            Answer::WrongPhase => 9,
-            Answer::Busy => 10,
-            Answer::NotFitted(_) => 11,
+            Self::WrongMemory => 1,
+            Self::WrongAddress => 2,
+            Self::NotListed(_) => 3,
+            Self::BadPointer(_) => 4,
+            Self::WrongPhase => 9,
+            Self::Busy => 10,
+            Self::NotFitted(_) => 11,
         }
     }
 
-    pub fn value(self) -> u8
-        ensures { result ≡ value_of self }
+    // What an access had read stands beside a refusal of its command too.
+    fn value(self) -> u8
+        ensures { result ≡ value_of (Err self) }
     {
         match self {
-            Answer::Accepted(v) => v,
-            Answer::WrongMemory => 0,
-            Answer::WrongAddress => 0,
-            Answer::NotListed(v) => v,
-            Answer::BadPointer(v) => v,
-            Answer::WrongPhase => 0,
-            Answer::Busy => 0,
-            Answer::NotFitted(v) => v,
+            Self::NotListed(v) => v,
+            Self::BadPointer(v) => v,
+            Self::NotFitted(v) => v,
+            _ => 0,
         }
     }
 }
 
-impl PowerUp {
-    pub fn number(self) -> u8
-        ensures { result ≡ power_number_of self }
+impl BoardRefusal {
+    fn number(self) -> u8
+        ensures { result ≡ power_number_of (Err self) }
     {
         match self {
-            PowerUp::Accepted => 0,
-            PowerUp::WrongBoard => 12,
-            PowerUp::UnknownPart => 14,
+            Self::WrongBoard => 12,
+            Self::UnknownPart => 14,
         }
     }
 }
 
-impl Drawing {
-    pub fn number(self) -> u8
-        ensures { result ≡ draw_number_of self }
+impl DrawRefusal {
+    fn number(self) -> u8
+        ensures { result ≡ draw_number_of (Err self) }
     {
         match self {
-            Drawing::Accepted(_) => 0,
-            Drawing::WrongMemory => 1,
-            Drawing::WrongRom => 5,
-            Drawing::WrongPicture => 6,
-            Drawing::NotBuilt => 7,
-            Drawing::LowOrigin => 8,
+            Self::WrongMemory => 1,
+            Self::WrongRom => 5,
+            Self::WrongPicture => 6,
+            Self::NotBuilt => 7,
+            Self::LowOrigin => 8,
+        }
+    }
+}
+
+// An answer as the page tells it.
+pub trait Numbered {
+    ghost numbered: { Self → ℕ };
+
+    ghost valued: { Self → ℕ };
+
+    fn number(self) -> u8
+        ensures { result ≡ numbered self };
+
+    fn value(self) -> usize
+        ensures { result ≡ valued self };
+}
+
+impl Numbered for Answer {
+    ghost numbered = { number_of };
+
+    ghost valued = { value_of };
+
+    fn number(self) -> u8 {
+        match self {
+            Ok(_) => 0,
+            Err(refusal) => refusal.number(),
         }
     }
 
-    pub fn rows(self) -> usize
-        ensures { result ≡ rows_of self }
-    {
+    fn value(self) -> usize {
         match self {
-            Drawing::Accepted(n) => n,
-            Drawing::WrongMemory => 0,
-            Drawing::WrongRom => 0,
-            Drawing::WrongPicture => 0,
-            Drawing::NotBuilt => 0,
-            Drawing::LowOrigin => 0,
+            Ok(v) => usize::from(v),
+            Err(refusal) => usize::from(refusal.value()),
         }
+    }
+}
+
+impl Numbered for PowerUp {
+    ghost numbered = { power_number_of };
+
+    ghost valued = { λ answer. 0 };
+
+    fn number(self) -> u8 {
+        match self {
+            Ok(_) => 0,
+            Err(refusal) => refusal.number(),
+        }
+    }
+
+    fn value(self) -> usize {
+        0
+    }
+}
+
+impl Numbered for Drawing {
+    ghost numbered = { draw_number_of };
+
+    ghost valued = { rows_of };
+
+    fn number(self) -> u8 {
+        match self {
+            Ok(_) => 0,
+            Err(refusal) => refusal.number(),
+        }
+    }
+
+    fn value(self) -> usize {
+        self.unwrap_or(0)
     }
 }

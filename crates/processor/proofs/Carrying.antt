@@ -1,6 +1,6 @@
 -- Laws of a step: what it reads and stores, and the pointers of the move.
 -- Assumes nothing.
-use Prim.Native.Nat.{ℕ, zero, suc, ◌%◌, ◌<◌, ◌≤◌}
+use Prim.Native.Nat.{ℕ, zero, suc, ◌<◌, ◌≤◌}
 use mathlib.Core.Path.{◌≡◌, refl, sym, ap, ◌∙◌}
 use mathlib.Core.Bool.{Bool, true, false, not, ◌&&◌, ◌||◌}
 use mathlib.Core.List.{List}
@@ -11,19 +11,15 @@ use lib.ListN.{length, set, take}
 use lib.Seq.{get_or-set_same, get_or-set_other, set-set}
 use borrow.Author.Tests.{not-false, lt-ltb}
 use Rattle.basics.specs.Below.{any_below}
-use Rattle.basics.specs.Bits.{is_set}
-use Rattle.basics.proofs.Choice.{or_none, or_neither, pick_same, eq_or_ne}
+use Rattle.basics.proofs.Choice.{or_none, or_neither, eq_or_ne}
 use Rattle.address.specs.Addresses.{is_illegal, is_not_fitted, some_address}
-use Rattle.address.specs.Places.{place_at, block_at, byte_at, loaded}
+use Rattle.address.specs.Places.{place_at, block_at, loaded}
 use Rattle.address.specs.Triples.{legal, legal_in}
 use Rattle.address.specs.declared.triple.Triple.{Triple}
 use Rattle.address.proofs.Laws.{page_column}
-use Rattle.command.specs.declared.Command.{Command}
-use Rattle.command.specs.declared.Command.TheVariants.{Nop, Ind, Krf, Oct, Krl, Move, NotListed}
-use Rattle.command.specs.Commands.{command_for, Asked}
-use Rattle.command.specs.HowMoves.{move_number}
-use Rattle.command.proofs.Asked.{asked_for}
-use Rattle.command.proofs.Numbered.{move_named, not_moved}
+use Rattle.std.specs.Prelude.{Some, None}
+use Rattle.command.specs.Commands.{command_for}
+use Rattle.command.specs.declared.Command.TheVariants.{Move}
 use Rattle.moves.specs.Onward.{BothOnPage}
 use Rattle.moves.specs.Spans.{span_addresses, is_bare_in}
 use Rattle.moves.proofs.Spans.{some_both, span_illegal, span_bare, span_legal}
@@ -38,16 +34,10 @@ use Rattle.processor.specs.HowCarried.{stored_all, last_of}
 use Rattle.processor.specs.Moves.{carried, carried_all, position, passed_on, position_of, moved, step_of}
 use Rattle.processor.proofs.Laws.{auxiliary_x_lem, main_x_lem}
 
--- what a read gives once a value is stored: the value, or what was there
-module _ (m : List ℕ) (at : Triple) (here p v : ℕ) (e : here ≡ place_at at) where
-  pub load_stored : here ≡ p → p < length m → v ≡ loaded at (set m p v)
-  load_stored s l = sym (rw (← e, s) (get_or-set_same m p v 0 l))
-
-  pub load_kept : (here ≡ p → ⊥) → byte_at m here ≡ loaded at (set m p v)
-  load_kept n = rw e (sym (get_or-set_other m p (place_at at) v 0 (λ q. n (e ∙ q))))
-
-  pub still_loaded : (here ≡ p → ⊥) → loaded at m ≡ loaded at (set m p v)
-  still_loaded n = ap (byte_at m) (sym e) ∙ load_kept n
+-- what a read gives once a value is stored there
+pub load_stored :
+    (m : List ℕ) (at : Triple) (here p v : ℕ) → here ≡ place_at at → here ≡ p → p < length m → v ≡ loaded at (set m p v)
+load_stored m at here p v e s l = sym (rw (← e, s) (get_or-set_same m p v 0 l))
 
 -- what is left after one, two and three bytes: k is the chip before, and v is what R1 holds at the end
 module _ (from to : Triple) (k : Chip) (shown : Shown) (after : List Bool) (i0 i1 i2 c b a : ℕ) where
@@ -106,7 +96,7 @@ carried_register (suc bytes) from to k j n =
 
 -- the pointers of a move that is refused with neither 4 nor 11
 module _ (bytes : ℕ) (auxiliary stops : Bool) (p : Processor) where
-  module _ (s : is_astray (Move bytes auxiliary stops) p ≡ false) where
+  module _ (s : is_astray (Some (Move bytes auxiliary stops)) p ≡ false) where
     both_legal : 1 ≤ bytes → (legal (pointer_of false p) ≡ true) × (legal (pointer_of true p) ≡ true)
     both_legal l =
         let m = span_addresses bytes p.blocks (pointer_of false p) in
@@ -123,11 +113,9 @@ module _ (bytes : ℕ) (auxiliary stops : Bool) (p : Processor) where
     pub both_on_page : 1 ≤ bytes → BothOnPage p.registers
     both_on_page l =
         let b = both_legal l in
-        let x = auxiliary_x_lem true p (register_of p 5) refl refl (page_column _ _ b.1) in
-        let y = main_x_lem false p (register_of p 7) refl refl (page_column _ _ b.0) in
-        (omega (arith, x), omega (arith, y))
+        (auxiliary_x_lem true p refl (page_column _ _ b.1), main_x_lem false p refl (page_column _ _ b.0))
 
-    module _ (f : is_unfitted (Move bytes auxiliary stops) p ≡ false) where
+    module _ (f : is_unfitted (Some (Move bytes auxiliary stops)) p ≡ false) where
       pub move_legal : (which : Bool) (k : ℕ) → k < bytes → legal_in p.blocks (block_at (pointer_of which p) k) ≡ true
       move_legal which k l = go which
         where
@@ -163,52 +151,26 @@ position_done bytes auxiliary stops k from to next r after ef et en er =
     ap (λ (q : Processor). chip q after) er
     ∙ ap (λ (j : Chip). chip (passed_on stops j.processor) j.memory) (en ∙ rw (ef, et))
 
--- a step while nothing runs, and while c does
-pub step_idle : (k : Chip) → k.processor.busy ≡ false → k ≡ step_of k
+-- a step while something runs is one position of it, and what is not listed ends
+pub step_once : (k : Chip) → k.processor.busy ≡ true → moved (command_for k.processor.part (register_of k.processor 0)) k ≡ step_of k
 unfolding step_of
-step_idle k e = rw e
+step_once k busy = rw busy refl
 
-module _ (k : Chip) (number : ℕ) (is : number ≡ move_number (command_for k.processor.part (register_of k.processor 0))) (busy : k.processor.busy ≡ true) where
-  abbrev running : Command
-  running = command_for k.processor.part (register_of k.processor 0)
-
-  asked : Asked running
-  asked = asked_for k.processor.part (register_of k.processor 0)
-
-  -- what is no move ends, whatever its pointers
-  ends : (c : Command) → Asked c → move_number c % 4 ≡ 0 → idle k ≡ moved c k
-  unfolding moved position_of
-  ends Nop a z = refl
-  ends (Ind r reads) a z = refl
-  ends (Krf reads increments) a z = sym (pick_same (is_astray (Krf reads increments) k.processor || is_unfitted (Krf reads increments) k.processor) (idle k))
-  ends (Oct reads auxiliary increments) a z =
-      sym (pick_same (is_astray (Oct reads auxiliary increments) k.processor || is_unfitted (Oct reads auxiliary increments) k.processor) (idle k))
-  ends (Krl reads increments) a z = sym (pick_same (is_astray (Krl reads increments) k.processor || is_unfitted (Krl reads increments) k.processor) (idle k))
-  ends (Move bytes auxiliary stops) a z = absurd (not_moved (Move bytes auxiliary stops) a z bytes auxiliary stops refl)
-  ends NotListed a z = refl
-
-  pub step_ended : number % 4 ≡ 0 → idle k ≡ step_of k
-  unfolding step_of
-  step_ended z = ends running asked (ap (λ (n : ℕ). n % 4) (sym is) ∙ z) ∙ rw busy
-
-  pub step_moved : (number % 4 ≡ 0 → ⊥) → moved (Move (number % 4) (is_set 2 number) (is_set 3 number)) k ≡ step_of k
-  unfolding step_of
-  step_moved n =
-      ap (λ (i : ℕ). moved (Move (i % 4) (is_set 2 i) (is_set 3 i)) k) is
-      ∙ ap (λ (c : Command). moved c k) (sym (move_named running asked (λ z. n (ap (λ (i : ℕ). i % 4) is ∙ z))))
-      ∙ rw busy
+pub unlisted_ends : (k : Chip) → position_of None k ≡ idle k
+unfolding position_of
+unlisted_ends k = refl
 
 -- 4 of a move: either pointer is illegal
 pub either_astray :
     (bytes : ℕ) (auxiliary stops : Bool) (p : Processor) → 1 ≤ bytes →
-    is_astray (Move bytes auxiliary stops) p ≡ (not (legal (pointer_of false p)) || not (legal (pointer_of true p)))
+    is_astray (Some (Move bytes auxiliary stops)) p ≡ (not (legal (pointer_of false p)) || not (legal (pointer_of true p)))
 either_astray bytes auxiliary stops p l =
     some_both is_illegal (span_addresses bytes p.blocks (pointer_of false p)) (span_addresses bytes p.blocks (pointer_of true p))
     ∙ rw (span_illegal p.blocks (pointer_of false p) bytes l, span_illegal p.blocks (pointer_of true p) bytes l)
 
 pub both_astray :
     (bytes : ℕ) (auxiliary stops : Bool) (p : Processor) → 1 ≤ bytes →
-    is_astray (Move bytes auxiliary stops) p ≡ not (legal (pointer_of false p) && legal (pointer_of true p))
+    is_astray (Some (Move bytes auxiliary stops)) p ≡ not (legal (pointer_of false p) && legal (pointer_of true p))
 both_astray bytes auxiliary stops p l = either_astray bytes auxiliary stops p l ∙ go (legal (pointer_of false p)) (legal (pointer_of true p))
   where
     go : (a b : Bool) → (not a || not b) ≡ not (a && b)
@@ -217,8 +179,8 @@ both_astray bytes auxiliary stops p l = either_astray bytes auxiliary stops p l 
 
 -- and 11, where neither is: a byte of either is not fitted
 pub both_bare :
-    (bytes : ℕ) (auxiliary stops : Bool) (p : Processor) → 1 ≤ bytes → is_astray (Move bytes auxiliary stops) p ≡ false →
-    is_unfitted (Move bytes auxiliary stops) p ≡ (any_below (is_bare_in p.blocks (pointer_of false p)) bytes || any_below (is_bare_in p.blocks (pointer_of true p)) bytes)
+    (bytes : ℕ) (auxiliary stops : Bool) (p : Processor) → 1 ≤ bytes → is_astray (Some (Move bytes auxiliary stops)) p ≡ false →
+    is_unfitted (Some (Move bytes auxiliary stops)) p ≡ (any_below (is_bare_in p.blocks (pointer_of false p)) bytes || any_below (is_bare_in p.blocks (pointer_of true p)) bytes)
 both_bare bytes auxiliary stops p l s =
     let b = both_legal bytes auxiliary stops p s l in
     some_both is_not_fitted (span_addresses bytes p.blocks (pointer_of false p)) (span_addresses bytes p.blocks (pointer_of true p))
@@ -235,24 +197,24 @@ module _ (bytes : ℕ) (auxiliary stops : Bool) (k : Chip) (l : 1 ≤ bytes) whe
   abbrev Bare : Bool
   Bare = any_below (is_bare_in at.blocks (pointer_of false at)) bytes || any_below (is_bare_in at.blocks (pointer_of true at)) bytes
 
-  pub moved_astray : Legal ≡ false → idle k ≡ moved (Move bytes auxiliary stops) k
+  pub moved_astray : Legal ≡ false → idle k ≡ moved (Some (Move bytes auxiliary stops)) k
   unfolding moved
   moved_astray e = rw (both_astray bytes auxiliary stops at l ∙ ap not e)
 
-  straight : Legal ≡ true → is_astray (Move bytes auxiliary stops) at ≡ false
+  straight : Legal ≡ true → is_astray (Some (Move bytes auxiliary stops)) at ≡ false
   straight e = both_astray bytes auxiliary stops at l ∙ ap not e
 
-  pub moved_bare : Legal ≡ true → Bare ≡ true → idle k ≡ moved (Move bytes auxiliary stops) k
+  pub moved_bare : Legal ≡ true → Bare ≡ true → idle k ≡ moved (Some (Move bytes auxiliary stops)) k
   unfolding moved
   moved_bare e f = rw (straight e, both_bare bytes auxiliary stops at l (straight e) ∙ f)
 
-  pub moved_position : Legal ≡ true → Bare ≡ false → position bytes auxiliary stops k ≡ moved (Move bytes auxiliary stops) k
+  pub moved_position : Legal ≡ true → Bare ≡ false → position bytes auxiliary stops k ≡ moved (Some (Move bytes auxiliary stops)) k
   unfolding moved position_of
   moved_position e f = rw (straight e, both_bare bytes auxiliary stops at l (straight e) ∙ f)
 
 pub placed :
     (bytes : ℕ) (auxiliary stops : Bool) (p : Processor) → 1 ≤ bytes → (legal (pointer_of false p) && legal (pointer_of true p)) ≡ true →
     (any_below (is_bare_in p.blocks (pointer_of false p)) bytes || any_below (is_bare_in p.blocks (pointer_of true p)) bytes) ≡ false →
-    (is_astray (Move bytes auxiliary stops) p ≡ false) × (is_unfitted (Move bytes auxiliary stops) p ≡ false)
+    (is_astray (Some (Move bytes auxiliary stops)) p ≡ false) × (is_unfitted (Some (Move bytes auxiliary stops)) p ≡ false)
 placed bytes auxiliary stops p l e f =
     let s = both_astray bytes auxiliary stops p l ∙ ap not e in (s, both_bare bytes auxiliary stops p l s ∙ f)

@@ -1,11 +1,11 @@
 -- A step of a move.
 -- Assumes nothing.
-use Rattle.std.specs.Prelude.{ℕ, zero, suc, Bool, not, ◌||◌}
+use Rattle.std.specs.Prelude.{ℕ, zero, suc, Bool, not, ◌||◌, Option, Some, None, Ok, Err}
 use Rattle.basics.specs.Choice.{pick}
 use Rattle.address.specs.Places.{block_at, loaded}
 use Rattle.address.specs.declared.triple.Triple.{Triple}
 use Rattle.command.specs.declared.Command as command
-use Rattle.command.specs.declared.answer.Answer.TheVariants.{Accepted, WrongMemory}
+use Rattle.command.specs.declared.answer.Refusal.TheVariants.{WrongMemory}
 use Rattle.command.specs.Commands.{command_for}
 use Rattle.moves.specs.Onward.{onward, is_end}
 use Rattle.processor.specs.declared.state.Processor.{Processor}
@@ -35,17 +35,17 @@ position bytes auxiliary stops k =
     chip (passed_on stops after.processor) after.memory
 
 -- a command that is no move, which no run has while busy, moves nothing and ends
-unfoldable pub position_of : command.Command → Chip → Chip
-position_of command.TheVariants.Nop k = idle k
-position_of (command.TheVariants.Ind r reads) k = idle k
-position_of (command.TheVariants.Krf reads increments) k = idle k
-position_of (command.TheVariants.Oct reads auxiliary increments) k = idle k
-position_of (command.TheVariants.Krl reads increments) k = idle k
-position_of (command.TheVariants.Move bytes auxiliary stops) k = position bytes auxiliary stops k
-position_of command.TheVariants.NotListed k = idle k
+unfoldable pub position_of : Option command.Command → Chip → Chip
+position_of (Some command.TheVariants.Nop) k = idle k
+position_of (Some (command.TheVariants.Ind r reads)) k = idle k
+position_of (Some (command.TheVariants.Krf reads increments)) k = idle k
+position_of (Some (command.TheVariants.Oct reads auxiliary increments)) k = idle k
+position_of (Some (command.TheVariants.Krl reads increments)) k = idle k
+position_of (Some (command.TheVariants.Move bytes auxiliary stops)) k = position bytes auxiliary stops k
+position_of None k = idle k
 
 -- and so does one of which a pointer is illegal or not fitted
-unfoldable pub moved : command.Command → Chip → Chip
+unfoldable pub moved : Option command.Command → Chip → Chip
 moved c k = pick (is_astray c k.processor || is_unfitted c k.processor) (idle k) (position_of c k)
 
 -- A step while nothing runs changes nothing
@@ -54,4 +54,4 @@ step_of k = pick k.processor.busy (moved (command_for k.processor.part (register
 
 -- step is checked 1, also while nothing runs
 unfoldable pub stepped : Chip → Outcome
-stepped k = pick (is_whole k) (outcome (step_of k) (Accepted 0)) (outcome k WrongMemory)
+stepped k = pick (is_whole k) (outcome (step_of k) (Ok 0)) (outcome k (Err WrongMemory))

@@ -1,9 +1,9 @@
 -- Power-up of a board that the caller names, by the number of its part and by its blocks.
 -- Assumes nothing.
-use Rattle.std.specs.Prelude.{ℕ}
+use Rattle.std.specs.Prelude.{ℕ, Ok, Err}
 use Rattle.basics.specs.Choice.{pick}
 use Rattle.board.specs.Boards.{is_part, part_named, is_board}
-use Rattle.command.specs.declared.answer.PowerUp.TheVariants.{Accepted, WrongBoard, UnknownPart}
+use Rattle.command.specs.declared.answer.BoardRefusal.TheVariants.{WrongBoard, UnknownPart}
 use Rattle.processor.specs.declared.power.PoweredUp.{PoweredUp}
 use Rattle.processor.specs.States.{powered_up, power_up}
 
@@ -12,6 +12,6 @@ unfoldable pub powered_up_board : ℕ → ℕ → PoweredUp
 powered_up_board part blocks =
     pick (is_part part)
     (pick (is_board (part_named part) blocks)
-    (record { processor = powered_up (part_named part) blocks; answer = Accepted })
-    (record { processor = power_up; answer = WrongBoard }))
-    (record { processor = power_up; answer = UnknownPart })
+    (record { processor = powered_up (part_named part) blocks; answer = Ok tt })
+    (record { processor = power_up; answer = Err WrongBoard }))
+    (record { processor = power_up; answer = Err UnknownPart })

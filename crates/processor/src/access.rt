@@ -1,113 +1,86 @@
 // Register accesses and the phase change.
-ghost use Rattle.std.specs.Prelude.{◌≡◌, not, ◌||◌, eqb};
+ghost use Rattle.std.specs.Prelude.{◌≡◌, ◌&&◌, eqb, Ok, Err};
 ghost use Rattle.basics.specs.Bits.{bits};
 ghost use Rattle.basics.specs.Choice.{pick};
 ghost use Rattle.board.specs.Boards.{bytes_of};
-ghost use Rattle.command.specs.declared.answer.Answer.TheVariants.{WrongMemory, WrongAddress, Busy};
+ghost use Rattle.command.specs.declared.answer.Refusal.TheVariants.{WrongMemory, WrongAddress, Busy};
 ghost use Rattle.processor.specs.States.{chip};
 ghost use Rattle.processor.specs.Access.{outcome_of, written, read_out, turned};
 
 use crate::execute::{Answered, execute};
 use crate::state::Processor;
 use board::bytes_of;
-use command::answer::Answer;
+use command::answer::Refusal;
 use command::held::{is_read_held, is_write_held};
 use phases::phase::phase_marks;
 
-// An access is refused by 1 or 2, before it takes place.
-fn is_refused(memory: usize, blocks: u8, address: u8) -> bool
-    ensures { result ≡ (not (eqb memory (bytes_of blocks)) || not (eqb (bits 4 4 address) 2)) }
+// The high four bits of the address are 2.
+fn is_chosen(address: u8) -> bool
+    ensures { result ≡ eqb (bits 4 4 address) 2 }
 {
-    if memory != bytes_of(blocks) {
-        return true;
-    }
-    address / 16 != 2
-}
-
-// Which of the two, in their order. The state is handed back as it was.
-fn refused(p: Processor, memory: usize) -> Answered
-    ensures { (result.processor ≡ p) × (result.answer ≡ pick (eqb memory (bytes_of p.blocks)) WrongAddress WrongMemory) }
-{
-    if memory != bytes_of(p.blocks) {
-        return Answered {
-            processor: p,
-            answer: Answer::WrongMemory,
-        };
-    }
-    Answered {
-        processor: p,
-        answer: Answer::WrongAddress,
-    }
-}
-
-// What 10 refuses is handed back as it was.
-fn held(p: Processor) -> Answered
-    ensures { (result.processor ≡ p) × (result.answer ≡ Busy) }
-{
-    Answered {
-        processor: p,
-        answer: Answer::Busy,
-    }
+    address / 16 == 2
 }
 
 impl Processor {
+    // 1, 2 and 10, in this order, before an access takes place; held where a move runs and 10 refuses it.
+    fn admits(self, memory: usize, address: u8, held: bool) -> Result<(), Refusal>
+        ensures { result ≡ pick (eqb memory (bytes_of self.blocks)) (pick (eqb (bits 4 4 address) 2) (pick held (Err Busy) (Ok tt)) (Err WrongAddress)) (Err WrongMemory) }
+    {
+        if memory != bytes_of(self.blocks) {
+            return Err(Refusal::WrongMemory);
+        }
+        if !is_chosen(address) {
+            return Err(Refusal::WrongAddress);
+        }
+        if held {
+            return Err(Refusal::Busy);
+        }
+        Ok(())
+    }
+
     // A register is written; then the command runs, if the address asks for it. While a move runs, only a NOP is.
-    pub fn write(mut self, memory: &mut [u8], address: u8, value: u8) -> Answered
+    #[tactic(auto, unfolding(crate::specs::Access::written, crate::specs::Access::checked))]
+    pub fn write(self, memory: &mut [u8], address: u8, value: u8) -> Answered
         ensures { outcome_of result memory.new ≡ written address value (chip self memory.old) }
     {
-        if is_refused(memory.len(), self.blocks, address) {
-            return refused(self, memory.len());
+        let held = is_write_held(self.busy, address, value);
+        match self.admits(memory.len(), address, held) {
+            Ok(()) => execute(self.with_register(address, value), memory, address, 0),
+            Err(refusal) => self.answering(Err(refusal)),
         }
-        if is_write_held(self.busy, address, value) {
-            return held(self);
-        }
-        let next = self.with_register(address, value);
-        execute(next, memory, address, 0)
     }
 
     // A register is read; then the command runs, if the address asks for it, and may store. While a move runs, only the status is read.
-    pub fn read(mut self, memory: &mut [u8], address: u8) -> Answered
+    #[tactic(auto, unfolding(crate::specs::Access::read_out, crate::specs::Access::checked))]
+    pub fn read(self, memory: &mut [u8], address: u8) -> Answered
         ensures { outcome_of result memory.new ≡ read_out address (chip self memory.old) }
     {
-        if is_refused(memory.len(), self.blocks, address) {
-            return refused(self, memory.len());
+        let held = is_read_held(self.busy, address);
+        match self.admits(memory.len(), address, held) {
+            Ok(()) => {
+                let value = self.register(address);
+                execute(self, memory, address, value)
+            }
+            Err(refusal) => self.answering(Err(refusal)),
         }
-        if is_read_held(self.busy, address) {
-            return held(self);
-        }
-        let value = self.register(address);
-        execute(self, memory, address, value)
     }
 
     // The phase change.
+    #[tactic(auto, unfolding(crate::specs::Access::turned, crate::specs::Access::phased))]
     pub fn turn(mut self, memory: &[u8], phase: u8) -> Answered
         ensures { outcome_of result memory.now ≡ turned phase (chip self memory.now) }
     {
         if memory.len() != bytes_of(self.blocks) {
-            return Answered {
-                processor: self,
-                answer: Answer::WrongMemory,
-            };
+            return self.answering(Err(Refusal::WrongMemory));
         }
         if 1 < phase {
-            return Answered {
-                processor: self,
-                answer: Answer::WrongPhase,
-            };
+            return self.answering(Err(Refusal::WrongPhase));
         }
         if self.phase == phase {
-            return Answered {
-                processor: self,
-                answer: Answer::Accepted(0),
-            };
+            return self.answering(Ok(0));
         }
-        let before = self.marks;
-        let after = phase_marks(before, self.shown(), memory);
-        self.marks = after;
+        self.marks = phase_marks(self.marks, self.shown(), memory);
         self.phase = phase;
-        Answered {
-            processor: self,
-            answer: Answer::Accepted(0),
-        }
+        self.answering(Ok(0))
     }
 }

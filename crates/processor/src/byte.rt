@@ -15,6 +15,7 @@ use address::triple::Triple;
 use marking::store::{code_marks, store_marks};
 
 // A store marks by the lists just before it.
+#[tactic(auto, unfolding(crate::specs::Bytes::stored))]
 pub fn store(mut p: Processor, memory: &mut [u8], at: Triple, value: u8) -> Processor
     requires { (length memory.old ≡ bytes_of p.blocks) × (legal_in p.blocks at ≡ true) }
     ensures { chip result memory.new ≡ stored at value (chip p memory.old) }
@@ -28,6 +29,7 @@ pub fn store(mut p: Processor, memory: &mut [u8], at: Triple, value: u8) -> Proc
 }
 
 // OCT: R1 with one byte.
+#[tactic(auto, unfolding(crate::specs::Bytes::oct))]
 pub fn oct(
     p: Processor,
     memory: &mut [u8],
@@ -50,6 +52,7 @@ pub fn oct(
 }
 
 // R1, R2, R3 from the C, B, A bytes.
+#[tactic(auto, unfolding(crate::specs::Bytes::code_read))]
 fn code_read(p: Processor, memory: &[u8], at: Triple) -> Processor
     requires { (length memory.now ≡ bytes_of p.blocks) × (legal_in p.blocks (block_at at 0) ≡ true) × (legal_in p.blocks (block_at at 1) ≡ true) × (legal_in p.blocks (block_at at 2) ≡ true) }
     ensures { result ≡ Rattle.processor.specs.Bytes.code_read at p memory.now }
@@ -82,6 +85,7 @@ fn code_stored(mut p: Processor, memory: &mut [u8], at: Triple) -> Processor
 }
 
 // KRF: three code bytes at the main pointer.
+#[tactic(auto, unfolding(crate::specs::Bytes::krf))]
 pub fn krf(p: Processor, memory: &mut [u8], reads: bool, increments: bool) -> Processor
     requires { (length memory.old ≡ bytes_of p.blocks) × (legal_in p.blocks (block_at (pointer_of false p) 0) ≡ true) × (legal_in p.blocks (block_at (pointer_of false p) 1) ≡ true) × (legal_in p.blocks (block_at (pointer_of false p) 2) ≡ true) }
     ensures { chip result memory.new ≡ Rattle.processor.specs.Bytes.krf reads increments (chip p memory.old) }

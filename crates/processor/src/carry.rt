@@ -61,6 +61,7 @@ fn third_byte(
 }
 
 // The first bytes of the three, in their order.
+#[tactic(auto, unfolding(crate::specs::HowCarried::stored_all))]
 fn store_all(
     memory: &mut [u8],
     bytes: u8,
@@ -86,6 +87,7 @@ fn store_all(
 }
 
 // The last of one, two or three.
+#[tactic(auto, unfolding(crate::specs::HowCarried::last_of))]
 fn last_of(bytes: u8, c: u8, b: u8, a: u8) -> u8
     ensures { result ≡ last_of bytes c b a }
 {

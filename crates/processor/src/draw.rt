@@ -1,11 +1,12 @@
 // The draw.
-ghost use Rattle.std.specs.Prelude.{◌≡◌};
+ghost use Rattle.std.specs.Prelude.{◌≡◌, Ok, Err, MatchResult};
 ghost use Rattle.page.specs.Marks.{none_marked};
-ghost use Rattle.processor.specs.Draws.{draw_outcome_of, drawn};
+ghost use Rattle.processor.specs.Draws.{draw_outcome, draw_outcome_of, drawn};
+ghost use Rattle.processor.specs.States.{with_marks};
 
 use crate::state::Processor;
 use board::bytes_of;
-use command::answer::Drawing;
+use command::answer::{DrawRefusal, Drawing};
 use picture::redraw::redraw;
 
 // The state after a draw, with the answer.
@@ -15,52 +16,50 @@ pub struct Drawn {
     pub answer: Drawing,
 }
 
-// A refusal hands the state back as it was.
-fn refused(p: Processor, answer: Drawing) -> Drawn
-    ensures { result ≡ Rattle.processor.specs.Draws.drawn_with p answer }
-{
-    Drawn {
-        processor: p,
-        answer,
-    }
-}
-
 // The marks after a draw.
+#[tactic(auto, unfolding(basics::specs::Parts::joined))]
 fn none_marked() -> [bool; 25]
     ensures { result ≡ none_marked }
 {
     [false; 25]
 }
 
+// The marked rows are redrawn, unless 1, 5, 7, 6 or 8 refuses it, in this order.
+#[tactic(auto, unfolding(crate::specs::Draws::drawn, crate::specs::Draws::drawn_page))]
+fn redrawn(p: Processor, memory: &[u8], rom: &[u8], picture: &mut [u8]) -> Drawing
+    ensures { MatchResult result
+        (λ rows. draw_outcome (with_marks p none_marked) picture.new (Ok rows) ≡ drawn p memory.now rom.now picture.old)
+        (λ refusal. draw_outcome p picture.new (Err refusal) ≡ drawn p memory.now rom.now picture.old) }
+{
+    if memory.len() != bytes_of(p.blocks) {
+        return Err(DrawRefusal::WrongMemory);
+    }
+    let shown = p.shown();
+    if rom.len() != shown.rom_asked() {
+        return Err(DrawRefusal::WrongRom);
+    }
+    let asked = shown.picture_asked().ok_or(DrawRefusal::NotBuilt)?;
+    if picture.len() != asked {
+        return Err(DrawRefusal::WrongPicture);
+    }
+    if shown.is_refused_8() {
+        return Err(DrawRefusal::LowOrigin);
+    }
+    Ok(redraw(picture, memory, rom, shown, p.marks))
+}
+
 impl Processor {
-    // The marked rows are redrawn and the marks cleared.
+    // The marked rows are redrawn and the marks cleared. A refusal hands the state back as it was.
     pub fn draw(mut self, memory: &[u8], rom: &[u8], picture: &mut [u8]) -> Drawn
         ensures { draw_outcome_of result picture.new ≡ drawn self memory.now rom.now picture.old }
     {
-        if memory.len() != bytes_of(self.blocks) {
-            return refused(self, Drawing::WrongMemory);
+        let answer = redrawn(self, memory, rom, picture);
+        if answer.is_ok() {
+            self.marks = none_marked();
         }
-        let shown = self.shown();
-        if rom.len() != shown.rom_asked() {
-            return refused(self, Drawing::WrongRom);
-        }
-        let asked = shown.picture_asked();
-        if asked == 0 {
-            return refused(self, Drawing::NotBuilt);
-        }
-        if picture.len() != asked {
-            return refused(self, Drawing::WrongPicture);
-        }
-        if shown.is_refused_8() {
-            return refused(self, Drawing::LowOrigin);
-        }
-        let marks = self.marks;
-        let rows = redraw(picture, memory, rom, shown, marks);
-        let after = none_marked();
-        self.marks = after;
         Drawn {
             processor: self,
-            answer: Drawing::Accepted(rows),
+            answer,
         }
     }
 }

@@ -1,9 +1,9 @@
 // The execution of a command, after the access that asked for it.
-ghost use Rattle.std.specs.Prelude.{◌≡◌, false, ◌%◌, length};
+ghost use Rattle.std.specs.Prelude.{◌≡◌, false, length, ℕ, List, Some, Err, IfOk, IfErr};
 ghost use Rattle.board.specs.Boards.{bytes_of};
-ghost use Rattle.command.specs.Commands.{Asked};
-ghost use Rattle.processor.specs.States.{chip};
-ghost use Rattle.processor.specs.Access.{outcome_of, is_unlisted, is_astray, is_unfitted, ran, executed};
+ghost use Rattle.command.specs.Commands.{Asked, command_for};
+ghost use Rattle.processor.specs.States.{chip, register_of};
+ghost use Rattle.processor.specs.Access.{outcome, outcome_of, is_astray, is_unfitted, ran, executed};
 
 use crate::byte::{krf, oct};
 use crate::pointer::pointer;
@@ -11,7 +11,7 @@ use crate::position::krl;
 use crate::state::Processor;
 use address::fitted::{is_code_fitted, is_narrow_fitted};
 use address::triple::is_legal;
-use command::answer::Answer;
+use command::answer::{Answer, Refusal};
 use command::{Command, command_for};
 use moves::span::is_bare;
 
@@ -22,122 +22,95 @@ pub struct Answered {
     pub answer: Answer,
 }
 
-fn indirect(p: Processor, r: u8, reads: bool) -> Processor
-    ensures { result ≡ Rattle.processor.specs.Access.indirect (r % 8) reads p }
-{
-    if reads {
-        return p.indirect_read(r);
-    }
-    p.indirect_written(r)
-}
-
-fn is_unlisted(command: Command) -> bool
-    ensures { result ≡ is_unlisted command }
-{
-    match command {
-        Command::Nop => false,
-        Command::Ind(_, _) => false,
-        Command::Krf(_, _) => false,
-        Command::Oct(_, _, _) => false,
-        Command::Krl(_, _) => false,
-        Command::Move(_, _, _) => false,
-        Command::NotListed => true,
+impl Processor {
+    pub fn answering(self, answer: Answer) -> Answered
+        ensures { (result.processor ≡ self) × (result.answer ≡ answer) }
+    {
+        Answered {
+            processor: self,
+            answer,
+        }
     }
 }
 
 // The command's pointer is not legal; of a move either.
 fn is_astray(command: Command, p: Processor) -> bool
     requires { Asked command }
-    ensures { result ≡ is_astray command p }
+    ensures { result ≡ is_astray (Some command) p }
 {
     match command {
-        Command::Nop => false,
-        Command::Ind(_, _) => false,
-        Command::Krf(_, _) => !is_legal(pointer(p, false)),
+        Command::Nop | Command::Ind(..) => false,
+        Command::Krf(..) => !is_legal(pointer(p, false)),
         Command::Oct(_, auxiliary, _) => !is_legal(pointer(p, auxiliary)),
-        Command::Krl(_, _) => !is_legal(pointer(p, false)),
-        Command::Move(_, _, _) => !is_legal(pointer(p, false)) | !is_legal(pointer(p, true)),
-        Command::NotListed => false,
+        Command::Krl(..) => !is_legal(pointer(p, false)),
+        Command::Move(..) => !is_legal(pointer(p, false)) || !is_legal(pointer(p, true)),
     }
 }
 
 // One of its bytes is not fitted, where each pointer that it uses is legal.
 fn is_unfitted(command: Command, p: Processor) -> bool
-    requires { Asked command × (is_astray command p ≡ false) }
-    ensures { result ≡ is_unfitted command p }
+    requires { Asked command × (is_astray (Some command) p ≡ false) }
+    ensures { result ≡ is_unfitted (Some command) p }
 {
     match command {
-        Command::Nop => false,
-        Command::Ind(_, _) => false,
-        Command::Krf(_, _) => !is_code_fitted(p.blocks, pointer(p, false)),
+        Command::Nop | Command::Ind(..) => false,
+        Command::Krf(..) => !is_code_fitted(p.blocks, pointer(p, false)),
         Command::Oct(_, auxiliary, _) => p.blocks <= pointer(p, auxiliary).z,
-        Command::Krl(_, _) => !is_narrow_fitted(p.blocks, pointer(p, false)),
-        Command::Move(bytes, _, _) => is_bare(p.blocks, pointer(p, false), bytes)
-            | is_bare(p.blocks, pointer(p, true), bytes),
-        Command::NotListed => false,
+        Command::Krl(..) => !is_narrow_fitted(p.blocks, pointer(p, false)),
+        Command::Move(bytes, _, _) => {
+            is_bare(p.blocks, pointer(p, false), bytes)
+                || is_bare(p.blocks, pointer(p, true), bytes)
+        }
     }
 }
 
 // What a command does where nothing refuses it.
+#[tactic(auto, unfolding(crate::specs::Access::indirect))]
 fn effect(p: Processor, memory: &mut [u8], command: Command) -> Processor
-    requires { (length memory.old ≡ bytes_of p.blocks) × Asked command × (is_astray command p ≡ false) × (is_unfitted command p ≡ false) }
-    ensures { chip result memory.new ≡ Rattle.processor.specs.Access.effect command (chip p memory.old) }
+    requires { (length memory.old ≡ bytes_of p.blocks) × Asked command × (is_astray (Some command) p ≡ false) × (is_unfitted (Some command) p ≡ false) }
+    ensures { chip result memory.new ≡ Rattle.processor.specs.Access.effect (Some command) (chip p memory.old) }
 {
     match command {
         Command::Nop => p.with_busy(false),
-        Command::Ind(r, reads) => indirect(p, r, reads),
+        Command::Ind(r, true) => p.indirect_read(r),
+        Command::Ind(r, false) => p.indirect_written(r),
         Command::Krf(reads, increments) => krf(p, memory, reads, increments),
         Command::Oct(reads, auxiliary, increments) => {
             oct(p, memory, reads, auxiliary, increments)
         }
         Command::Krl(reads, increments) => krl(p, memory, reads, increments),
-        Command::Move(_, _, _) => p.cleared().with_busy(true),
-        Command::NotListed => p,
+        Command::Move(..) => p.cleared().with_busy(true),
     }
 }
 
-// A command, after the access that gave the value. What is refused is handed back as it was.
-fn run_command(p: Processor, memory: &mut [u8], command: Command, value: u8) -> Answered
-    requires { (length memory.old ≡ bytes_of p.blocks) × Asked command }
-    ensures { outcome_of result memory.new ≡ ran command value (chip p memory.old) }
+// The command in R0, unless 3, 4 or 11 refuses it, in this order; a refusal has the value that the access gave.
+#[tactic(auto, unfolding(crate::specs::Access::ran))]
+fn judged(p: Processor, value: u8) -> Result<Command, Refusal>
+    ensures ok { IfOk result (λ c. (command_for p.part (register_of p 0) ≡ Some c) × Asked c
+        × (is_astray (Some c) p ≡ false) × (is_unfitted (Some c) p ≡ false)) }
+    ensures err { IfErr result (λ r. (m : List ℕ) → outcome (chip p m) (Err r) ≡ ran (command_for p.part (register_of p 0)) value (chip p m)) }
 {
-    if is_unlisted(command) {
-        return Answered {
-            processor: p,
-            answer: Answer::NotListed(value),
-        };
-    }
+    let command = command_for(p.part, p.registers[0]).ok_or(Refusal::NotListed(value))?;
     if is_astray(command, p) {
-        return Answered {
-            processor: p,
-            answer: Answer::BadPointer(value),
-        };
+        return Err(Refusal::BadPointer(value));
     }
     if is_unfitted(command, p) {
-        return Answered {
-            processor: p,
-            answer: Answer::NotFitted(value),
-        };
+        return Err(Refusal::NotFitted(value));
     }
-    Answered {
-        processor: effect(p, memory, command),
-        answer: Answer::Accepted(value),
-    }
+    Ok(command)
 }
 
-// The command, if bit 3 of the address asks for it.
+// The command, if bit 3 of the address asks for it. What is refused is handed back as it was.
+#[tactic(auto, unfolding(crate::specs::Access::executed, crate::specs::Access::ran))]
 pub fn execute(p: Processor, memory: &mut [u8], address: u8, value: u8) -> Answered
     requires { length memory.old ≡ bytes_of p.blocks }
     ensures { outcome_of result memory.new ≡ executed address value (chip p memory.old) }
 {
-    if address / 8 % 2 == 1 {
-        let registers = p.registers;
-        let part = p.part;
-        let command = command_for(part, registers[0]);
-        return run_command(p, memory, command, value);
+    if address / 8 % 2 == 0 {
+        return p.answering(Ok(value));
     }
-    Answered {
-        processor: p,
-        answer: Answer::Accepted(value),
+    match judged(p, value) {
+        Ok(command) => effect(p, memory, command).answering(Ok(value)),
+        Err(refusal) => p.answering(Err(refusal)),
     }
 }

@@ -5,51 +5,39 @@ ghost use Rattle.processor.specs.Pointers.{pointer_of, incremented, incremented_
 use crate::state::Processor;
 use address::pointer::{auxiliary_pointer, main_pointer};
 use address::triple::Triple;
+use moves::onward::next_x;
 
 // The Z3 of an EF9345's auxiliary pointer stands in R6.
+#[tactic(auto, unfolding(crate::specs::Pointers::pointer_of))]
 pub fn pointer(p: Processor, auxiliary: bool) -> Triple
     ensures { result ≡ pointer_of auxiliary p }
 {
-    let registers = p.registers;
-    let part = p.part;
     if auxiliary {
-        return auxiliary_pointer(part, registers[4], registers[5], registers[6]);
+        return auxiliary_pointer(p.part, p.registers[4], p.registers[5], p.registers[6]);
     }
-    main_pointer(part, registers[6], registers[7])
-}
-
-// A byte that came out of an array, with its range: the contract tells it.
-fn byte(x: u8) -> u8
-    ensures { result ≡ x }
-{
-    x
+    main_pointer(p.part, p.registers[6], p.registers[7])
 }
 
 // X of the pointer, one more; from 39 to 0, with its LX bit.
+#[tactic(auto, unfolding(crate::specs::Pointers::incremented))]
 pub fn increment(mut p: Processor, auxiliary: bool) -> Processor
     requires { (pointer_of auxiliary p).x < 40 }
     ensures { result ≡ incremented auxiliary p }
 {
-    if auxiliary {
-        let old = byte(p.registers[5]);
-        if old % 64 == 39 {
-            p.registers[5] = old - 39;
-            p.lxa = true;
-            return p;
-        }
-        p.registers[5] = old + 1;
-        return p;
-    }
-    let old = byte(p.registers[7]);
+    let n = if auxiliary { 5 } else { 7 };
+    let old = p.registers[n];
+    p.registers[n] = next_x(old);
     if old % 64 == 39 {
-        p.registers[7] = old - 39;
-        p.lxm = true;
-        return p;
+        if auxiliary {
+            p.lxa = true;
+        } else {
+            p.lxm = true;
+        }
     }
-    p.registers[7] = old + 1;
     p
 }
 
+#[tactic(auto, unfolding(crate::specs::Pointers::incremented_if))]
 pub fn increment_if(p: Processor, asked: bool, auxiliary: bool) -> Processor
     requires { (pointer_of auxiliary p).x < 40 }
     ensures { result ≡ incremented_if asked auxiliary p }
@@ -61,10 +49,11 @@ pub fn increment_if(p: Processor, asked: bool, auxiliary: bool) -> Processor
 }
 
 // The next position: the odd one of the column, and from that the even one of the next; from the last to the first, with LXm.
+#[tactic(auto, unfolding(crate::specs::Pointers::advanced, crate::specs::Pointers::next_position, moves::specs::Onward::next_x))]
 pub fn advance(mut p: Processor) -> Processor
     ensures { result ≡ advanced p }
 {
-    let old = byte(p.registers[7]);
+    let old = p.registers[7];
     if old < 128 {
         p.registers[7] = old + 128;
         return p;
@@ -79,6 +68,7 @@ pub fn advance(mut p: Processor) -> Processor
     p
 }
 
+#[tactic(auto, unfolding(crate::specs::Pointers::advanced_if))]
 pub fn advance_if(p: Processor, asked: bool) -> Processor
     ensures { result ≡ advanced_if asked p }
 {

@@ -16,6 +16,7 @@ use address::triple::Triple;
 use marking::store::narrow_marks;
 
 // R1 from the C byte, R3 from the position's half of the attributes.
+#[tactic(auto, unfolding(crate::specs::Bytes::narrow_read))]
 fn narrow_read(p: Processor, memory: &[u8], at: Triple) -> Processor
     requires { (length memory.now ≡ bytes_of p.blocks) × (legal_in p.blocks at ≡ true) × (legal_in p.blocks (attributes_at at) ≡ true) }
     ensures { result ≡ narrow_read at p memory.now }
@@ -46,6 +47,7 @@ fn narrow_stored(mut p: Processor, memory: &mut [u8], at: Triple) -> Processor
 }
 
 // KRL: a C byte and its attributes at the main pointer.
+#[tactic(auto, unfolding(crate::specs::Bytes::krl))]
 pub fn krl(p: Processor, memory: &mut [u8], reads: bool, increments: bool) -> Processor
     requires { (length memory.old ≡ bytes_of p.blocks) × (legal_in p.blocks (pointer_of false p) ≡ true) × (legal_in p.blocks (attributes_at (pointer_of false p)) ≡ true) }
     ensures { chip result memory.new ≡ Rattle.processor.specs.Bytes.krl reads increments (chip p memory.old) }

@@ -28,46 +28,29 @@ impl Processor {
     pub fn with_register(mut self, n: u8, value: u8) -> Self
         ensures { result ≡ with_register self (n % 8) value }
     {
-        let i = (n % 8) as usize;
-        self.registers[i] = value;
+        self.registers[usize::from(n % 8)] = value;
         self
     }
 
-    // R0 read.
+    // R0 read: bit 7 while a move runs, and bit 6 if either LX bit is set.
+    #[tactic(auto, unfolding(crate::specs::States::status_of))]
     pub fn status(self) -> u8
         ensures { result ≡ status_of self }
     {
-        let lx = self.lx_bits();
-        if self.busy {
-            return 0x80 + lx;
-        }
-        lx
+        128 * u8::from(self.busy)
+            + 64 * u8::from(self.lxm | self.lxa)
+            + 32 * u8::from(self.lxm)
+            + 16 * u8::from(self.lxa)
     }
 
-    // Bit 6 is set if either of the two is.
-    fn lx_bits(self) -> u8
-        ensures { (result ≡ 64 * one_if (self.lxm || self.lxa) + 32 * one_if self.lxm + 16 * one_if self.lxa) × (result < 128) }
-    {
-        if self.lxm {
-            if self.lxa {
-                return 0x70;
-            }
-            return 0x60;
-        }
-        if self.lxa {
-            return 0x50;
-        }
-        0
-    }
-
+    #[tactic(auto, unfolding(crate::specs::States::register_read))]
     pub fn register(self, n: u8) -> u8
         ensures { result ≡ register_read self (n % 8) }
     {
-        let i = (n % 8) as usize;
-        if i == 0 {
-            return self.status();
+        match n % 8 {
+            0 => self.status(),
+            i => self.registers[usize::from(i)],
         }
-        self.registers[i]
     }
 
     // Both LX bits.
@@ -91,29 +74,21 @@ impl Processor {
     pub fn indirect_read(mut self, r: u8) -> Self
         ensures { result ≡ indirect_read self (r % 8) }
     {
-        let i = (r % 8) as usize;
-        let value = self.indirect[i];
-        self.registers[1] = value;
+        self.registers[1] = self.indirect[usize::from(r % 8)];
         self
     }
 
     // R1 to an indirect register: a changed value marks every row, in MAT only in 80 columns.
+    #[tactic(auto, unfolding(crate::specs::States::indirect_written, basics::specs::Parts::joined))]
     pub fn indirect_written(mut self, r: u8) -> Self
         ensures { result ≡ indirect_written self (r % 8) }
     {
-        let shown = self.shown();
-        let i = (r % 8) as usize;
-        let value = self.registers[1];
-        let old = self.indirect[i];
-        self.indirect[i] = value;
-        if old == value {
-            return self;
+        let i = usize::from(r % 8);
+        let is_changed = self.indirect[i] != self.registers[1];
+        if is_changed && (i != 2 || self.shown().is_eighty()) {
+            self.marks = [true; 25];
         }
-        let drawn_by = (i != 2) | shown.is_eighty();
-        if !drawn_by {
-            return self;
-        }
-        self.marks = [true; 25];
+        self.indirect[i] = self.registers[1];
         self
     }
 

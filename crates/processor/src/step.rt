@@ -1,5 +1,5 @@
 // A step of a move.
-ghost use Rattle.std.specs.Prelude.{◌≡◌, true, false, ◌&&◌, ◌||◌, length, ◌≤◌};
+ghost use Rattle.std.specs.Prelude.{◌≡◌, true, false, ◌&&◌, ◌||◌, length, ◌≤◌, Some};
 ghost use Rattle.basics.specs.Below.{any_below};
 ghost use Rattle.board.specs.Boards.{bytes_of};
 ghost use Rattle.address.specs.Triples.{legal};
@@ -17,12 +17,13 @@ use crate::pointer::pointer;
 use crate::state::Processor;
 use address::triple::is_legal;
 use board::bytes_of;
-use command::answer::Answer;
-use command::moving::move_number;
+use command::answer::Refusal;
+use command::{Command, command_for};
 use moves::onward::{is_end, onward};
 use moves::span::is_bare;
 
 // The pointers go on, and a move with a stop may end.
+#[tactic(auto, unfolding(crate::specs::Moves::passed_on))]
 fn passed_on(mut p: Processor, stops: bool) -> Processor
     requires { BothOnPage p.registers }
     ensures { result ≡ passed_on stops p }
@@ -36,7 +37,7 @@ fn passed_on(mut p: Processor, stops: bool) -> Processor
 
 // One character position.
 fn position(p: Processor, memory: &mut [u8], bytes: u8, auxiliary: bool, stops: bool) -> Processor
-    requires { (length memory.old ≡ bytes_of p.blocks) × (1 ≤ bytes) × (bytes ≤ 3) × (is_astray (Move bytes auxiliary stops) p ≡ false) × (is_unfitted (Move bytes auxiliary stops) p ≡ false) }
+    requires { (length memory.old ≡ bytes_of p.blocks) × (1 ≤ bytes) × (bytes ≤ 3) × (is_astray (Some (Move bytes auxiliary stops)) p ≡ false) × (is_unfitted (Some (Move bytes auxiliary stops)) p ≡ false) }
     ensures { chip result memory.new ≡ Rattle.processor.specs.Moves.position bytes auxiliary stops (chip p memory.old) }
 {
     let from = pointer(p, auxiliary);
@@ -49,34 +50,29 @@ fn position(p: Processor, memory: &mut [u8], bytes: u8, auxiliary: bool, stops: 
 fn are_legal(p: Processor) -> bool
     ensures { result ≡ (legal (pointer_of false p) && legal (pointer_of true p)) }
 {
-    if is_legal(pointer(p, false)) {
-        return is_legal(pointer(p, true));
-    }
-    false
+    is_legal(pointer(p, false)) && is_legal(pointer(p, true))
 }
 
 // A byte of either is not fitted.
 fn are_bare(p: Processor, bytes: u8) -> bool
     ensures { result ≡ (any_below (is_bare_in p.blocks (pointer_of false p)) bytes || any_below (is_bare_in p.blocks (pointer_of true p)) bytes) }
 {
-    is_bare(p.blocks, pointer(p, false), bytes) | is_bare(p.blocks, pointer(p, true), bytes)
+    is_bare(p.blocks, pointer(p, false), bytes) || is_bare(p.blocks, pointer(p, true), bytes)
 }
 
 // A move whose pointers are not legal and fitted, which none that started has, ends.
 fn move_on(p: Processor, memory: &mut [u8], bytes: u8, auxiliary: bool, stops: bool) -> Processor
     requires { (length memory.old ≡ bytes_of p.blocks) × (1 ≤ bytes) × (bytes ≤ 3) }
-    ensures { chip result memory.new ≡ moved (Move bytes auxiliary stops) (chip p memory.old) }
+    ensures { chip result memory.new ≡ moved (Some (Move bytes auxiliary stops)) (chip p memory.old) }
 {
-    if !are_legal(p) {
-        return p.with_busy(false);
-    }
-    if are_bare(p, bytes) {
+    if !are_legal(p) || are_bare(p, bytes) {
         return p.with_busy(false);
     }
     position(p, memory, bytes, auxiliary, stops)
 }
 
 // Where a move runs. What is no move ends.
+#[tactic(auto, unfolding(crate::specs::Moves::step_of, crate::specs::Moves::moved, crate::specs::Moves::position_of))]
 fn step_of(p: Processor, memory: &mut [u8]) -> Processor
     requires { length memory.old ≡ bytes_of p.blocks }
     ensures { chip result memory.new ≡ step_of (chip p memory.old) }
@@ -84,35 +80,21 @@ fn step_of(p: Processor, memory: &mut [u8]) -> Processor
     if !p.busy {
         return p;
     }
-    let registers = p.registers;
-    let part = p.part;
-    let number = move_number(part, registers[0]);
-    if number % 4 == 0 {
-        return p.with_busy(false);
+    match command_for(p.part, p.registers[0]) {
+        Some(Command::Move(bytes, auxiliary, stops)) => move_on(p, memory, bytes, auxiliary, stops),
+        _ => p.with_busy(false),
     }
-    move_on(
-        p,
-        memory,
-        number % 4,
-        number / 4 % 2 == 1,
-        number / 8 % 2 == 1,
-    )
 }
 
 impl Processor {
     // One character position of the move that runs; nothing where none does.
+    #[tactic(auto, unfolding(crate::specs::Moves::stepped))]
     pub fn step(self, memory: &mut [u8]) -> Answered
         ensures { outcome_of result memory.new ≡ stepped (chip self memory.old) }
     {
         if memory.len() != bytes_of(self.blocks) {
-            return Answered {
-                processor: self,
-                answer: Answer::WrongMemory,
-            };
+            return self.answering(Err(Refusal::WrongMemory));
         }
-        Answered {
-            processor: step_of(self, memory),
-            answer: Answer::Accepted(0),
-        }
+        step_of(self, memory).answering(Ok(0))
     }
 }

@@ -7,15 +7,6 @@ use Rattle.processor.proofs.Ways.{code_within, code_place, code_stored_lem}
 use borrow.Author.Rules.{rules}
 use Rattle.processor.proofs.byte.code_stored.Goals as goal
 
-pub code_marks-after-requires : goal.code_marks-after-requires
-code_marks-after-requires c = (
-  rw c.shown.ensures c.requires.0,
-  c.place_at-here.ensures,
-  rw c.shown.ensures c.requires.1,
-  rw c.shown.ensures c.requires.2,
-  rw c.shown.ensures c.requires.3,
-)
-
 pub overflow_add-memory : goal.overflow_add-memory
 overflow_add-memory c = omega (arith, code_within c.args.p.blocks c.args.at 0 _ _ (bytes_of c.args.p.blocks) c.place_at-here.ensures c.block.ensures c.requires.1 refl)
 

@@ -6,9 +6,6 @@ use native.Mathlib.Omega.{arith}
 use Rattle.address.proofs.Places.{place_fits_in}
 use Rattle.processor.proofs.carry.carry_all.Goals as goal
 
-pub load-c-requires : goal.load-c-requires
-load-c-requires c = (c.requires.0, rw c.block_at-4.ensures (c.requires.3 0 (omega arith)))
-
 pub second_byte-b-requires : goal.second_byte-b-requires
 second_byte-b-requires c = (c.requires.0, place_fits_in _ _ _ c.place-first.ensures (rw c.block_at.ensures (c.requires.4 0 (omega arith))), λ t. rw c.block_at-5.ensures (c.requires.3 1 (ltb-true _ _ t)))
 
@@ -18,9 +15,6 @@ third_byte-a-requires c = (
   place_fits_in _ _ _ c.place-first.ensures (rw c.block_at.ensures (c.requires.4 0 (omega arith))),
   λ t. (rw c.block_at-6.ensures (c.requires.3 2 (ltb-true _ _ t)), place_fits_in _ _ _ c.place-second.ensures (rw c.block_at-2.ensures (c.requires.4 1 (omega (arith, ltb-true 2 c.args.bytes t))))),
 )
-
-pub span_marks-after-requires : goal.span_marks-after-requires
-span_marks-after-requires c = rw c.shown.ensures (c.requires.0, c.place_at-here.ensures, c.requires.1, c.requires.2, c.requires.4)
 
 pub store_all-requires : goal.store_all-requires
 store_all-requires c = (

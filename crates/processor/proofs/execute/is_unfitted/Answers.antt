@@ -1,6 +1,6 @@
 use Rattle.processor.proofs.Carrying.{both_bare}
 use borrow.Author.Tests.{not-false}
-use mathlib.Core.Path.{sym, ◌∙◌}
+use mathlib.Core.Path.{refl, sym, ◌∙◌}
 use Rattle.moves.proofs.Spans.{le_not_lt}
 use Rattle.address.proofs.Fits.{byte_illegal, code_illegal, narrow_illegal, byte_bare, code_bare, narrow_bare}
 use Rattle.processor.proofs.execute.is_unfitted.Goals as goal
@@ -17,7 +17,26 @@ pub returns-in-Krl : goal.returns-in-Krl
 returns-in-Krl c = let legal = not-false _ (sym (narrow_illegal _ _) ∙ rw c.in-Krl.is at c.requires.1) in
     rw (c.in-Krl.is, c.is_narrow_fitted.ensures, c.pointer-in-Krl.ensures) (sym (narrow_bare _ _ legal))
 
-pub returns-in-Move : goal.returns-in-Move
-returns-in-Move c = let bytes = (rw c.in-Move.is at c.requires.0).0 in
-    rw (c.in-Move.is, c.is_bare-in-Move.ensures, c.pointer-in-Move-2.ensures, c.is_bare.ensures, c.pointer-in-Move.ensures)
-    (sym (both_bare _ c.in-Move.field-1 c.in-Move.field-2 c.args.p bytes (rw c.in-Move.is at c.requires.1)))
+pub returns-then-is_bare : goal.returns-then-is_bare
+returns-then-is_bare c = let bytes = (rw c.in-Move.is at c.requires.0).0 in
+    rw (
+      c.in-Move.is,
+      both_bare _ c.in-Move.field-1 c.in-Move.field-2 c.args.p bytes (rw c.in-Move.is at c.requires.1),
+      ← c.pointer-in-Move.ensures,
+      ← c.is_bare.ensures,
+      c.if-is_bare.true,
+    )
+    refl
+
+pub returns-else-is_bare : goal.returns-else-is_bare
+returns-else-is_bare c = let bytes = (rw c.in-Move.is at c.requires.0).0 in
+    rw (
+      c.in-Move.is,
+      both_bare _ c.in-Move.field-1 c.in-Move.field-2 c.args.p bytes (rw c.in-Move.is at c.requires.1),
+      ← c.pointer-in-Move.ensures,
+      ← c.is_bare.ensures,
+      c.if-is_bare.false,
+      ← c.pointer-else-is_bare.ensures,
+      ← c.is_bare-else-is_bare.ensures,
+    )
+    refl

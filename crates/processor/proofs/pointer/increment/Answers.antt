@@ -1,21 +1,29 @@
-use Rattle.processor.proofs.Laws.{auxiliary_x_lem, auxiliary_last, auxiliary_more, main_x_lem, main_last, main_more}
-use native.Mathlib.Omega.{arith}
+use mathlib.Core.Path.{refl}
+use Rattle.processor.proofs.Laws.{auxiliary_x_lem, main_x_lem, auxiliary_last, main_last, not_last}
+use Rattle.processor.proofs.pointer.increment.Goals.{then-auxiliary, else-auxiliary}
 use Rattle.processor.proofs.pointer.increment.Goals as goal
 
-pub returns-then-old-eq39 : goal.returns-then-old-eq39
-returns-then-old-eq39 c = auxiliary_last _ _ _ c.if-auxiliary.true c.byte-old.ensures c.if-old-eq39.true
+pub next_x-requires : goal.next_x-requires
+next_x-requires c =
+    elim c.if-auxiliary.branch [
+      | then-auxiliary w ↦ rw w.n-is (auxiliary_x_lem _ _ w.if-auxiliary.true c.requires)
+      | else-auxiliary w ↦ rw w.n-is (main_x_lem _ _ w.if-auxiliary.false c.requires)
+    ]
 
-pub overflow_add-p : goal.overflow_add-p
-overflow_add-p c = record { fits = omega (arith, auxiliary_x_lem _ _ _ c.if-auxiliary.true c.byte-old.ensures c.requires) }
+pub returns-then-auxiliary-2 : goal.returns-then-auxiliary-2
+returns-then-auxiliary-2 c =
+    auxiliary_last _ _ c.if-auxiliary.n _
+    (elim c.if-auxiliary.branch [ then-auxiliary w ↦ rw (w.if-auxiliary.true, w.n-is) refl | else-auxiliary w ↦ rw (w.if-auxiliary.false, w.n-is) refl ])
+    c.next_x.ensures c.if-auxiliary-2.true c.if-old-eq39.true
 
-pub returns-then-auxiliary : goal.returns-then-auxiliary
-returns-then-auxiliary c = auxiliary_more _ _ _ c.if-auxiliary.true c.byte-old.ensures c.if-old-eq39.false
+pub returns-else-auxiliary-2 : goal.returns-else-auxiliary-2
+returns-else-auxiliary-2 c =
+    main_last _ _ c.if-auxiliary.n _
+    (elim c.if-auxiliary.branch [ then-auxiliary w ↦ rw (w.if-auxiliary.true, w.n-is) refl | else-auxiliary w ↦ rw (w.if-auxiliary.false, w.n-is) refl ])
+    c.next_x.ensures c.if-auxiliary-2.false c.if-old-eq39.true
 
-pub returns-then-old-eq39-2 : goal.returns-then-old-eq39-2
-returns-then-old-eq39-2 c = main_last _ _ _ c.if-auxiliary.false c.byte-old-2.ensures c.if-old-eq39-2.true
-
-pub overflow_add-p-2 : goal.overflow_add-p-2
-overflow_add-p-2 c = record { fits = omega (arith, main_x_lem _ _ _ c.if-auxiliary.false c.byte-old-2.ensures c.requires) }
-
-pub returns : goal.returns
-returns c = main_more _ _ _ c.if-auxiliary.false c.byte-old-2.ensures c.if-old-eq39-2.false
+pub returns-else-old-eq39 : goal.returns-else-old-eq39
+returns-else-old-eq39 c =
+    not_last _ _ c.if-auxiliary.n _
+    (elim c.if-auxiliary.branch [ then-auxiliary w ↦ rw (w.if-auxiliary.true, w.n-is) refl | else-auxiliary w ↦ rw (w.if-auxiliary.false, w.n-is) refl ])
+    c.next_x.ensures c.if-old-eq39.false

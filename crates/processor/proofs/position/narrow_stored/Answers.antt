@@ -3,14 +3,7 @@ use native.Mathlib.Omega.{arith}
 use Rattle.address.proofs.Places.{place_fits_in}
 use Rattle.processor.specs.States.{chip}
 use Rattle.processor.proofs.Ways.{narrow_stored_lem}
-use borrow.Author.Rules.{rules}
 use Rattle.processor.proofs.position.narrow_stored.Goals as goal
-
-pub load-requires : goal.load-requires
-load-requires c = (search rules, rw c.attributes_at-beside.ensures c.requires.2)
-
-pub narrow_marks-after-requires : goal.narrow_marks-after-requires
-narrow_marks-after-requires c = (rw c.shown.ensures c.requires.0, rw c.shown.ensures c.requires.1, rw c.shown.ensures c.requires.2)
 
 pub bounds-memory-here : goal.bounds-memory-here
 bounds-memory-here c = omega (arith, place_fits_in c.args.p.blocks c.args.at _ c.place-here.ensures c.requires.1)

@@ -1,20 +1,8 @@
-use mathlib.Core.Path.{◌∙◌}
-use Rattle.processor.specs.Access.{read_out}
-use Rattle.processor.proofs.Ways.{memory_whole, access_refused, access_held, access_done_lem}
-use Rattle.processor.proofs.Laws.{low_three}
+use mathlib.Core.Path.{sym, ◌∙◌}
+use Rattle.processor.specs.States.{chip}
+use Rattle.processor.proofs.Ways.{read_done}
 use Rattle.processor.proofs.state.Processor.read.Goals as goal
 
-pub returns-then-is_refused : goal.returns-then-is_refused
-unfolding read_out
-returns-then-is_refused c = rw c.refused.ensures.0 (access_refused _ _ _ _ _ c.is_refused.ensures c.if-is_refused.true _ c.refused.ensures.1)
-
-pub returns-then-is_read_held : goal.returns-then-is_read_held
-unfolding read_out
-returns-then-is_read_held c = rw (c.held.ensures.0, c.held.ensures.1) (access_held _ _ _ _ _ c.is_refused.ensures c.if-is_refused.false _ c.is_read_held.ensures c.if-is_read_held.true)
-
-pub execute-requires : goal.execute-requires
-execute-requires c = memory_whole _ _ c.args.address _ c.is_refused.ensures c.if-is_refused.false
-
-pub returns : goal.returns
-unfolding read_out
-returns c = rw (low_three c.args.address, ← c.register-value.ensures) (c.execute.ensures ∙ access_done_lem _ _ _ _ _ c.is_refused.ensures c.if-is_refused.false _ c.is_read_held.ensures c.if-is_read_held.false)
+pub returns-in-Ok : goal.returns-in-Ok
+returns-in-Ok c = let a = c.args in
+    c.execute.ensures ∙ read_done a.address (chip a.self a.memory.now) _ _ c.is_read_held-held.ensures (sym c.admits.ensures ∙ c.in-Ok.is) c.register-value.ensures
