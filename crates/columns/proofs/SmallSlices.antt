@@ -3,10 +3,9 @@
 use Prim.Native.Nat.{ℕ, ◌+◌, ◌*◌, ◌%◌, ◌<◌}
 use mathlib.Core.List.{List}
 use native.Mathlib.Omega.{arith}
-use Rattle.address.specs.Addresses.{byte_from}
+use Rattle.std.specs.Prelude.{Ok, Err}
+use Rattle.address.specs.Addresses.{Address, byte_from}
 use Rattle.address.specs.Slices.{slice_address}
-use Rattle.address.specs.declared.answer.Address.{Address}
-use Rattle.address.specs.declared.answer.Address.TheVariants.{Illegal, NotFitted, Fitted}
 use Rattle.shown.specs.Bytes.{AreBytes}
 use Rattle.shown.specs.declared.Shown.{Shown}
 use Rattle.cell.specs.declared.kind.Cell.{Cell}
@@ -20,9 +19,8 @@ module _ (m rom : List ℕ) (m-small : AreBytes m) (rom-small : AreBytes rom) wh
   kept_small blocks c z n = go (slice_address blocks c n z)
     where
       go : (at : Address) → byte_from m at < 256
-      go Illegal = omega arith
-      go NotFitted = omega arith
-      go (Fitted p) = m-small p
+      go (Err why) = omega arith
+      go (Ok p) = m-small p
 
   from_small : (blocks c : ℕ) (source : Source) (n : ℕ) → slice_from blocks m rom c source n < 256
   unfolding rom_slice

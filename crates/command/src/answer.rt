@@ -1,5 +1,5 @@
 // The answers: each is a Result, and its error is a refusal. The page gives an answer a number, 0 where nothing is refused, and a value.
-ghost use Rattle.std.specs.Prelude.{◌≡◌, ℕ};
+ghost use Rattle.std.specs.Prelude.{◌≡◌, ℕ, Err};
 ghost use Rattle.command.specs.Answers.{number_of, value_of, power_number_of, draw_number_of, rows_of};
 ghost use Rattle.command.specs.declared.answer.BoardRefusal.{BoardRefusal};
 
@@ -62,6 +62,59 @@ pub enum DrawRefusal {
     LowOrigin,
 }
 
+impl Refusal {
+    fn number(self) -> u8
+        ensures { result ≡ number_of (Err self) }
+    {
+        match self {
+            Self::WrongMemory => 1,
+            Self::WrongAddress => 2,
+            Self::NotListed(_) => 3,
+            Self::BadPointer(_) => 4,
+            Self::WrongPhase => 9,
+            Self::Busy => 10,
+            Self::NotFitted(_) => 11,
+        }
+    }
+
+    // What an access had read stands beside a refusal of its command too.
+    fn value(self) -> u8
+        ensures { result ≡ value_of (Err self) }
+    {
+        match self {
+            Self::NotListed(v) => v,
+            Self::BadPointer(v) => v,
+            Self::NotFitted(v) => v,
+            _ => 0,
+        }
+    }
+}
+
+impl BoardRefusal {
+    fn number(self) -> u8
+        ensures { result ≡ power_number_of (Err self) }
+    {
+        match self {
+            Self::WrongBoard => 12,
+            Self::UnknownPart => 14,
+        }
+    }
+}
+
+impl DrawRefusal {
+    fn number(self) -> u8
+        ensures { result ≡ draw_number_of (Err self) }
+    {
+        match self {
+            Self::WrongMemory => 1,
+            Self::WrongRom => 5,
+            Self::WrongPicture => 6,
+            Self::NotBuilt => 7,
+            Self::LowOrigin => 8,
+        }
+    }
+}
+
 // An answer as the page tells it.
 pub trait Numbered {
     ghost numbered: { Self → ℕ };
@@ -83,22 +136,14 @@ impl Numbered for Answer {
     fn number(self) -> u8 {
         match self {
             Ok(_) => 0,
-            Err(Refusal::WrongMemory) => 1,
-            Err(Refusal::WrongAddress) => 2,
-            Err(Refusal::NotListed(_)) => 3,
-            Err(Refusal::BadPointer(_)) => 4,
-            Err(Refusal::WrongPhase) => 9,
-            Err(Refusal::Busy) => 10,
-            Err(Refusal::NotFitted(_)) => 11,
+            Err(refusal) => refusal.number(),
         }
     }
 
-    // What an access had read stands beside a refusal of its command too.
     fn value(self) -> usize {
         match self {
-            Ok(v) | Err(Refusal::NotListed(v) | Refusal::BadPointer(v) | Refusal::NotFitted(v)) =>
-                v.into(),
-            Err(_) => 0,
+            Ok(v) => usize::from(v),
+            Err(refusal) => usize::from(refusal.value()),
         }
     }
 }
@@ -110,9 +155,8 @@ impl Numbered for PowerUp {
 
     fn number(self) -> u8 {
         match self {
-            Ok(()) => 0,
-            Err(BoardRefusal::WrongBoard) => 12,
-            Err(BoardRefusal::UnknownPart) => 14,
+            Ok(_) => 0,
+            Err(refusal) => refusal.number(),
         }
     }
 
@@ -129,11 +173,7 @@ impl Numbered for Drawing {
     fn number(self) -> u8 {
         match self {
             Ok(_) => 0,
-            Err(DrawRefusal::WrongMemory) => 1,
-            Err(DrawRefusal::WrongRom) => 5,
-            Err(DrawRefusal::WrongPicture) => 6,
-            Err(DrawRefusal::NotBuilt) => 7,
-            Err(DrawRefusal::LowOrigin) => 8,
+            Err(refusal) => refusal.number(),
         }
     }
 

@@ -1,5 +1,6 @@
 -- Demand 3: after each accepted draw of any run from power-up, the picture is the one drawn afresh.
 -- Assumes nothing.
+use Rattle.std.specs.Prelude.{Result}
 use Prim.Native.Nat.{ℕ, ◌<◌}
 use mathlib.Core.Path.{◌≡◌, refl, sym, ap, subst, ◌∙◌}
 use mathlib.Core.Bool.{Bool, true, false, not, ◌&&◌, ◌||◌, false≢true}
@@ -29,7 +30,7 @@ use Rattle.picture.specs.Redraws.{redrawn, fresh}
 use Rattle.picture.proofs.Redrawing.{redrawn_fresh, fresh_part}
 use Rattle.picture.proofs.Registers.{row_ignores}
 use Rattle.processor.specs.declared.state.Processor.{Processor}
-use Rattle.command.specs.declared.answer.Drawing.{Drawing}
+use Rattle.command.specs.declared.answer.DrawRefusal.{DrawRefusal}
 use Rattle.command.specs.Answers.{draw_number_of}
 use Rattle.processor.specs.States.{Chip, chip, shown_by, shown_of, powered_up, register_of, indirect_written}
 use Rattle.processor.specs.Bytes.{stored}
@@ -165,7 +166,7 @@ module _ (p : Processor) (m rom picture : List ℕ) (f : Fresh p m rom picture) 
     page_drawn z = page_kept
 
     pub drawn_left :
-        ((a : Drawing) → draw_number_of a ≢ 0 → Fresh p m rom (keep (draw_number_of a) picture)) → LeftFresh (drawn p m rom picture)
+        ((a : Result ℕ DrawRefusal) → draw_number_of a ≢ 0 → Fresh p m rom (keep (draw_number_of a) picture)) → LeftFresh (drawn p m rom picture)
     drawn_left refused = draw_known LeftFresh p m rom picture (λ a s n. refused a n) (λ s can. page_left can)
 
     pub drawn_accepted : DrawnFresh (drawn p m rom picture)

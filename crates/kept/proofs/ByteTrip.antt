@@ -1,5 +1,6 @@
 -- Demand 2: one byte written to R1 and stored by OCT is the one that OCT reads back.
 -- Assumes nothing.
+use Rattle.std.specs.Prelude.{Some}
 use Prim.Native.Nat.{ℕ}
 use mathlib.Core.Path.{◌≡◌, refl, ap, ◌∙◌}
 use mathlib.Core.Bool.{Bool, true, false}
@@ -25,7 +26,7 @@ use Rattle.kept.proofs.RoundTrip.{byte_kept_in}
 use Rattle.kept.proofs.Sizes.{run_sized, power_up_sized}
 use Rattle.kept.proofs.Trips.{Trip, storing, reading, back, end}
 
-oct_code_lem : (reads auxiliary increments : Bool) → command_of (oct_code reads auxiliary increments) ≡ Oct reads auxiliary increments
+oct_code_lem : (reads auxiliary increments : Bool) → command_of (oct_code reads auxiliary increments) ≡ Some (Oct reads auxiliary increments)
 unfolding command_of
 oct_code_lem true true true = refl
 oct_code_lem true true false = refl
@@ -36,7 +37,7 @@ oct_code_lem false true false = refl
 oct_code_lem false false true = refl
 oct_code_lem false false false = refl
 
-oct_uses : (part : Part) (reads auxiliary increments : Bool) → Uses part auxiliary byte_addresses (oct_code reads auxiliary increments) (Oct reads auxiliary increments)
+oct_uses : (part : Part) (reads auxiliary increments : Bool) → Uses part auxiliary byte_addresses (oct_code reads auxiliary increments) (Some (Oct reads auxiliary increments))
 oct_uses part reads auxiliary increments =
     record { is = named part _ _ (oct_code_lem reads auxiliary increments) (lists_oct part reads auxiliary increments); listed = refl; calm = refl; at = λ p. refl }
 
@@ -60,7 +61,7 @@ module _ (part : Part) (r4 r5 r6 r7 v : ℕ) (x : Bool) where
       (calm : Idle w) (s : Sized w.processor) (between : List Operation)
       (rests : Idle (run between (step (execute (oct_code false x i)) (run (puts loaded) w))))
     where
-      abbrev journey : Journey part x byte_addresses meaning Loads (Oct false x i) (Oct true x j)
+      abbrev journey : Journey part x byte_addresses meaning Loads (Some (Oct false x i)) (Some (Oct true x j))
       journey =
           record {
             pointers = pointers;

@@ -1,5 +1,6 @@
 -- Demand 2: three code bytes written to R1, R2 and R3 and stored by KRF are the three that KRF reads back.
 -- Assumes nothing.
+use Rattle.std.specs.Prelude.{Some}
 use Prim.Native.Nat.{ℕ, ◌≤◌}
 use mathlib.Core.Path.{◌≡◌, refl, ap, ◌∙◌}
 use mathlib.Core.Bool.{Bool, true, false}
@@ -24,14 +25,14 @@ use Rattle.kept.proofs.RoundTrip.{code_kept_in}
 use Rattle.kept.proofs.Sizes.{run_sized, power_up_sized}
 use Rattle.kept.proofs.Trips.{Trip, storing, reading, back, end}
 
-krf_code_lem : (reads increments : Bool) → command_of (krf_code reads increments) ≡ Krf reads increments
+krf_code_lem : (reads increments : Bool) → command_of (krf_code reads increments) ≡ Some (Krf reads increments)
 unfolding command_of
 krf_code_lem true true = refl
 krf_code_lem true false = refl
 krf_code_lem false true = refl
 krf_code_lem false false = refl
 
-krf_uses : (part : Part) (reads increments : Bool) → Uses part false code_addresses (krf_code reads increments) (Krf reads increments)
+krf_uses : (part : Part) (reads increments : Bool) → Uses part false code_addresses (krf_code reads increments) (Some (Krf reads increments))
 krf_uses part reads increments =
     record { is = named part _ _ (krf_code_lem reads increments) (lists_krf part reads increments); listed = refl; calm = refl; at = λ p. refl }
 
@@ -57,7 +58,7 @@ module _ (part : Part) (r6 r7 c b a : ℕ) where
       (i j : Bool) (w : World) (o : w.processor.part ≡ part) (g : all_fitted (code_addresses w.processor.blocks (main_pointer part r6 r7)) ≡ true)
       (long : Whole w) (calm : Idle w) (s : Sized w.processor) (between : List Operation)
       (rests : Idle (run between (step (execute (krf_code false i)) (run (puts coded) w)))) where
-    abbrev journey : Journey part false code_addresses (main_pointer part r6 r7) Codes (Krf false i) (Krf true j)
+    abbrev journey : Journey part false code_addresses (main_pointer part r6 r7) Codes (Some (Krf false i)) (Some (Krf true j))
     journey =
         record {
           pointers = pointer;

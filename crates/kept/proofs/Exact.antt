@@ -1,6 +1,7 @@
 -- Marks are exact over every operation: row r is marked after it exactly when it was before and no accepted draw has cleared it, or the
 -- rules mark it.
 -- Assumes nothing.
+use Rattle.std.specs.Prelude.{Option, Some, None, is_none}
 use Prim.Native.Nat.{ℕ, zero, suc, ◌<◌}
 use mathlib.Core.Path.{◌≡◌, refl, sym, ap, ◌∙◌}
 use mathlib.Core.Bool.{Bool, true, false, not, ◌&&◌, ◌||◌, and-true, and-false, or-false, or_assoc, false≢true}
@@ -12,7 +13,7 @@ use Rattle.basics.specs.Choice.{pick}
 use Rattle.address.specs.declared.triple.Triple.{Triple}
 use Rattle.page.specs.Marks.{is_marked}
 use Rattle.command.specs.declared.Command.{Command}
-use Rattle.command.specs.declared.Command.TheVariants.{Nop, Ind, Krf, Oct, Krl, Move, NotListed}
+use Rattle.command.specs.declared.Command.TheVariants.{Nop, Ind, Krf, Oct, Krl, Move}
 use Rattle.processor.specs.declared.state.Processor.{Processor}
 use Rattle.command.specs.Answers.{draw_number_of}
 use Rattle.processor.specs.States.{Chip, chip, register_of, with_register, cleared}
@@ -20,7 +21,7 @@ use Rattle.processor.specs.Pointers.{pointer_of}
 use Rattle.address.specs.Narrow.{is_odd, attributes_at, nibble_into}
 use Rattle.address.specs.Places.{block_at, loaded}
 use Rattle.processor.specs.Bytes.{stored, oct, code_stored, krf, narrow_stored, krl}
-use Rattle.processor.specs.Access.{is_unlisted, is_astray, is_unfitted, effect, idle, is_whole, Outcome, indirect}
+use Rattle.processor.specs.Access.{is_astray, is_unfitted, effect, idle, is_whole, Outcome, indirect}
 use Rattle.processor.specs.Moves.{carried, carried_all, passed_on, position, position_of, moved}
 use Rattle.processor.specs.Draws.{DrawOutcome, drawn_page}
 use Rattle.kept.specs.Demands.{MarksExact}
@@ -66,13 +67,13 @@ module _ (r : ℕ) (l : r < 25) where
   at a b e = ap (λ (q : List Bool). is_marked q r) e
 
   -- what a command leaves, refused or not
-  abbrev settled : Command → Chip → Chip
-  settled c k = pick (is_unlisted c || (is_astray c k.processor || is_unfitted c k.processor)) k (effect c k)
+  abbrev settled : Option Command → Chip → Chip
+  settled c k = pick (is_none c || (is_astray c k.processor || is_unfitted c k.processor)) k (effect c k)
 
   -- where it is no marker, the row is marked as it was
-  unruled : (c : Command) (k : Chip) → is_marker c ≡ false → marked (settled c k) ≡ (marked k || false)
+  unruled : (c : Option Command) (k : Chip) → is_marker c ≡ false → marked (settled c k) ≡ (marked k || false)
   unruled c k n =
-      pick_either (λ (j : Chip). marked j ≡ marked k) (is_unlisted c || (is_astray c k.processor || is_unfitted c k.processor)) k (effect c k) refl
+      pick_either (λ (j : Chip). marked j ≡ marked k) (is_none c || (is_astray c k.processor || is_unfitted c k.processor)) k (effect c k) refl
       (at _ _ (effect_keeps is_marker _ (unmarked _) c n k (λ s. absurd (false≢true (sym n ∙ store_marks_lem c s))) refl))
       ∙ sym (or-false (marked k))
 
@@ -91,29 +92,29 @@ module _ (r : ℕ) (l : r < 25) where
   pointed_move false false k done rule e = e
 
   -- a command marks by its rule
-  ruled : (c : Command) (k : Chip) → marked (settled c k) ≡ (marked k || command_rule c k r)
+  ruled : (c : Option Command) (k : Chip) → marked (settled c k) ≡ (marked k || command_rule c k r)
   unfolding indirect
-  ruled Nop k = unruled Nop k refl
-  ruled (Ind n true) k = unruled (Ind n true) k refl
-  ruled (Ind n false) k = indirect_marks_exact k.processor n r l
-  ruled (Krf true increments) k = unruled (Krf true increments) k refl
-  ruled (Krf false increments) k =
+  ruled (Some Nop) k = unruled (Some Nop) k refl
+  ruled (Some (Ind n true)) k = unruled (Some (Ind n true)) k refl
+  ruled (Some (Ind n false)) k = indirect_marks_exact k.processor n r l
+  ruled (Some (Krf true increments)) k = unruled (Some (Krf true increments)) k refl
+  ruled (Some (Krf false increments)) k =
       let t = pointer_of false k.processor in
       let j = chip (cleared k.processor) k.memory in
-      pointed (is_astray (Krf false increments) k.processor) (is_unfitted (Krf false increments) k.processor) k (krf false increments k) (code_rule t j r) (at _ _ (krf_marks increments k) ∙ three t j)
-  ruled (Oct true auxiliary increments) k = unruled (Oct true auxiliary increments) k refl
-  ruled (Oct false auxiliary increments) k =
+      pointed (is_astray (Some (Krf false increments)) k.processor) (is_unfitted (Some (Krf false increments)) k.processor) k (krf false increments k) (code_rule t j r) (at _ _ (krf_marks increments k) ∙ three t j)
+  ruled (Some (Oct true auxiliary increments)) k = unruled (Some (Oct true auxiliary increments)) k refl
+  ruled (Some (Oct false auxiliary increments)) k =
       let t = pointer_of auxiliary k.processor in
       let j = chip (cleared k.processor) k.memory in
       let v = register_of k.processor 1 in
-      pointed (is_astray (Oct false auxiliary increments) k.processor) (is_unfitted (Oct false auxiliary increments) k.processor) k (oct false auxiliary increments k) (store_rule t v j r) (at _ _ (oct_marks auxiliary increments k) ∙ store_marks_exact t v j r l)
-  ruled (Krl true increments) k = unruled (Krl true increments) k refl
-  ruled (Krl false increments) k =
+      pointed (is_astray (Some (Oct false auxiliary increments)) k.processor) (is_unfitted (Some (Oct false auxiliary increments)) k.processor) k (oct false auxiliary increments k) (store_rule t v j r) (at _ _ (oct_marks auxiliary increments k) ∙ store_marks_exact t v j r l)
+  ruled (Some (Krl true increments)) k = unruled (Some (Krl true increments)) k refl
+  ruled (Some (Krl false increments)) k =
       let t = pointer_of false k.processor in
       let j = chip (cleared k.processor) k.memory in
-      pointed (is_astray (Krl false increments) k.processor) (is_unfitted (Krl false increments) k.processor) k (krl false increments k) (narrow_rule t j r) (at _ _ (krl_marks increments k) ∙ two t j)
-  ruled (Move bytes auxiliary stops) k = unruled (Move bytes auxiliary stops) k refl
-  ruled NotListed k = unruled NotListed k refl
+      pointed (is_astray (Some (Krl false increments)) k.processor) (is_unfitted (Some (Krl false increments)) k.processor) k (krl false increments k) (narrow_rule t j r) (at _ _ (krl_marks increments k) ∙ two t j)
+  ruled (Some (Move bytes auxiliary stops)) k = unruled (Some (Move bytes auxiliary stops)) k refl
+  ruled None k = unruled None k refl
 
   -- a step marks by the stores of its bytes, one after another
   carried_exact : (bytes : ℕ) (from to : Triple) (k : Chip) → marked (carried_all bytes from to k) ≡ (marked k || carry_rule bytes from to k r)
@@ -127,26 +128,26 @@ module _ (r : ℕ) (l : r < 25) where
       ∙ or_assoc (marked k) (carry_rule n from to k r) (store_rule (block_at to n) v j r)
 
   -- the pointers that go on, and the end of a move, mark nothing
-  position_exact : (c : Command) (k : Chip) → marked (moved c k) ≡ (marked k || move_rule c k r)
+  position_exact : (c : Option Command) (k : Chip) → marked (moved c k) ≡ (marked k || move_rule c k r)
   unfolding moved position_of position passed_on
-  position_exact Nop k = sym (or-false (marked k))
-  position_exact (Ind n reads) k = sym (or-false (marked k))
-  position_exact (Krf reads increments) k =
-      pick_either (λ (j : Chip). marked j ≡ marked k) (is_astray (Krf reads increments) k.processor || is_unfitted (Krf reads increments) k.processor) _ _ refl refl
+  position_exact (Some Nop) k = sym (or-false (marked k))
+  position_exact (Some (Ind n reads)) k = sym (or-false (marked k))
+  position_exact (Some (Krf reads increments)) k =
+      pick_either (λ (j : Chip). marked j ≡ marked k) (is_astray (Some (Krf reads increments)) k.processor || is_unfitted (Some (Krf reads increments)) k.processor) _ _ refl refl
       ∙ sym (or-false (marked k))
-  position_exact (Oct reads auxiliary increments) k =
+  position_exact (Some (Oct reads auxiliary increments)) k =
       pick_either (λ (j : Chip). marked j ≡ marked k)
-      (is_astray (Oct reads auxiliary increments) k.processor || is_unfitted (Oct reads auxiliary increments) k.processor) _ _ refl refl
+      (is_astray (Some (Oct reads auxiliary increments)) k.processor || is_unfitted (Some (Oct reads auxiliary increments)) k.processor) _ _ refl refl
       ∙ sym (or-false (marked k))
-  position_exact (Krl reads increments) k =
-      pick_either (λ (j : Chip). marked j ≡ marked k) (is_astray (Krl reads increments) k.processor || is_unfitted (Krl reads increments) k.processor) _ _ refl refl
+  position_exact (Some (Krl reads increments)) k =
+      pick_either (λ (j : Chip). marked j ≡ marked k) (is_astray (Some (Krl reads increments)) k.processor || is_unfitted (Some (Krl reads increments)) k.processor) _ _ refl refl
       ∙ sym (or-false (marked k))
-  position_exact (Move bytes auxiliary stops) k =
+  position_exact (Some (Move bytes auxiliary stops)) k =
       let from = pointer_of auxiliary k.processor in
       let to = pointer_of (not auxiliary) k.processor in
-      let c = Move bytes auxiliary stops in
+      let c = Some (Move bytes auxiliary stops) in
       pointed_move (is_astray c k.processor) (is_unfitted c k.processor) k _ (carry_rule bytes from to k r) (carried_exact bytes from to k)
-  position_exact NotListed k = sym (or-false (marked k))
+  position_exact None k = sym (or-false (marked k))
 
   -- the register access itself marks nothing
   access_exact :

@@ -1,5 +1,6 @@
 -- A move that runs: it has legal, fitted pointers, and has them still after a step.
 -- Assumes nothing.
+use Rattle.std.specs.Prelude.{Option, Some, IfSome}
 use Prim.Native.Nat.{ℕ, ◌/◌, ◌<◌, ◌≤◌}
 use mathlib.Core.Path.{◌≡◌, refl, sym, ap, subst, ◌∙◌}
 use mathlib.Core.Bool.{Bool, true, false}
@@ -34,12 +35,12 @@ use Rattle.kept.proofs.Walk.{command_in}
 
 -- the command in R0 is a move with legal, fitted pointers
 pub record Runs (bytes : ℕ) (auxiliary stops : Bool) (p : Processor) : Type 0 where
-  pub is : command_in p ≡ Move bytes auxiliary stops
-  pub astray : is_astray (Move bytes auxiliary stops) p ≡ false
-  pub unfitted : is_unfitted (Move bytes auxiliary stops) p ≡ false
+  pub is : command_in p ≡ Some (Move bytes auxiliary stops)
+  pub astray : is_astray (Some (Move bytes auxiliary stops)) p ≡ false
+  pub unfitted : is_unfitted (Some (Move bytes auxiliary stops)) p ≡ false
 
-pub bytes_asked : (bytes : ℕ) (auxiliary stops : Bool) (p : Processor) → command_in p ≡ Move bytes auxiliary stops → 1 ≤ bytes
-bytes_asked bytes auxiliary stops p e = (subst Asked e (asked_for p.part (register_of p 0))).0
+pub bytes_asked : (bytes : ℕ) (auxiliary stops : Bool) (p : Processor) → command_in p ≡ Some (Move bytes auxiliary stops) → 1 ≤ bytes
+bytes_asked bytes auxiliary stops p e = (subst (λ (c : Option Command). IfSome c Asked) e (asked_for p.part (register_of p 0))).0
 
 -- the registers after a step, by those before it: R0 and R4 stay, both X go on, and the main pointer's Y goes on or stays
 abbrev pub Onto : List ℕ → List ℕ → Type 0
@@ -100,8 +101,8 @@ module _ (part : Part) (l m : List ℕ) (o : Onto l m) where
 
 -- so a move that runs does so after a step, if it does not end
 module _ (bytes : ℕ) (aux stops : Bool) (p q : Processor) (h : Runs bytes aux stops p) (sp : q.part ≡ p.part) (sb : q.blocks ≡ p.blocks) (o : Onto p.registers q.registers) where
-  abbrev move : Command
-  move = Move bytes aux stops
+  abbrev move : Option Command
+  move = Some (Move bytes aux stops)
 
   one : 1 ≤ bytes
   one = bytes_asked bytes aux stops p h.is

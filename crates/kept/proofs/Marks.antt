@@ -1,5 +1,6 @@
 -- Marks are exact: after each thing that can mark, row r is marked exactly when it was before, or the rule marks it.
 -- Assumes nothing.
+use Rattle.std.specs.Prelude.{Option, Some, None}
 use Prim.Native.Nat.{ℕ, ◌<◌}
 use mathlib.Core.Path.{◌≡◌, refl, sym, ◌∙◌}
 use mathlib.Core.Bool.{Bool, true, false, not, ◌&&◌, ◌||◌, false≢true, or-false, or-true}
@@ -18,7 +19,7 @@ use Rattle.reading.specs.Marks.{store_marks, flash_in, phase_marks}
 use Rattle.processor.specs.declared.state.Processor.{Processor}
 use Rattle.processor.specs.States.{Chip, chip, register_of, indirect_written, with_phase, with_register, cleared, shown_of}
 use Rattle.command.specs.declared.Command.{Command}
-use Rattle.command.specs.declared.Command.TheVariants.{Nop, Ind, Krf, Oct, Krl, Move, NotListed}
+use Rattle.command.specs.declared.Command.TheVariants.{Nop, Ind, Krf, Oct, Krl, Move}
 use Rattle.command.specs.Commands.{command_for}
 use Rattle.processor.specs.Pointers.{pointer_of}
 use Rattle.address.specs.Places.{place_at, loaded}
@@ -76,15 +77,15 @@ unfolding drawn_page
 draw_marks_exact p m rom picture r l = table_at (λ s. false) 25 r false l
 
 -- each command that stores marks too
-pub store_marks_lem : (c : Command) → is_store c ≡ true → is_marker c ≡ true
-store_marks_lem Nop e = e
-store_marks_lem (Ind r true) e = e
-store_marks_lem (Ind r false) e = refl
-store_marks_lem (Krf reads increments) e = e
-store_marks_lem (Oct reads auxiliary increments) e = e
-store_marks_lem (Krl reads increments) e = e
-store_marks_lem (Move bytes auxiliary stops) e = e
-store_marks_lem NotListed e = e
+pub store_marks_lem : (c : Option Command) → is_store c ≡ true → is_marker c ≡ true
+store_marks_lem (Some Nop) e = e
+store_marks_lem (Some (Ind r true)) e = e
+store_marks_lem (Some (Ind r false)) e = refl
+store_marks_lem (Some (Krf reads increments)) e = e
+store_marks_lem (Some (Oct reads auxiliary increments)) e = e
+store_marks_lem (Some (Krl reads increments)) e = e
+store_marks_lem (Some (Move bytes auxiliary stops)) e = e
+store_marks_lem None e = e
 
 -- a command that marks nothing keeps the marks
 pub unmarked : (l : List Bool) → KeptBy is_marker (λ (k : Chip). k.processor.marks ≡ l)
@@ -111,7 +112,7 @@ unfolding krl
 krl_marks increments k = advance_keeps is_marker _ (unmarked _) increments (narrow_stored _ _) refl
 
 pub krf_read_marks : (increments : Bool) (k : Chip) → (krf true increments k).processor.marks ≡ k.processor.marks
-krf_read_marks increments k = effect_keeps is_marker _ (unmarked _) (Krf true increments) refl k (λ s. absurd (false≢true s)) refl
+krf_read_marks increments k = effect_keeps is_marker _ (unmarked _) (Some (Krf true increments)) refl k (λ s. absurd (false≢true s)) refl
 
 pub oct_marks :
     (auxiliary increments : Bool) (k : Chip) →
@@ -121,7 +122,7 @@ unfolding oct
 oct_marks auxiliary increments k = asked_keeps is_marker _ (unmarked _) increments auxiliary (stored _ _ _) refl
 
 pub oct_read_marks : (auxiliary increments : Bool) (k : Chip) → (oct true auxiliary increments k).processor.marks ≡ k.processor.marks
-oct_read_marks auxiliary increments k = effect_keeps is_marker _ (unmarked _) (Oct true auxiliary increments) refl k (λ s. absurd (false≢true s)) refl
+oct_read_marks auxiliary increments k = effect_keeps is_marker _ (unmarked _) (Some (Oct true auxiliary increments)) refl k (λ s. absurd (false≢true s)) refl
 
 -- every other access marks nothing
 pub write_unmarked :

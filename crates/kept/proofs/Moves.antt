@@ -1,5 +1,6 @@
 -- Moves: a step while nothing runs, how a move ends, and its pointers over every run.
 -- Assumes nothing.
+use Rattle.std.specs.Prelude.{Option, Some, None, is_none}
 use Prim.Native.Nat.{ℕ, zero, suc, ◌+◌, ◌/◌, ◌%◌, ◌≤◌}
 use mathlib.Core.Path.{◌≡◌, refl, sym, ap, subst, ◌∙◌}
 use mathlib.Core.Bool.{Bool, true, false, not, ◌&&◌, and-false, false≢true}
@@ -18,7 +19,7 @@ use Rattle.address.specs.declared.triple.Triple.{Triple}
 use Rattle.board.specs.Boards.{bytes_of}
 use Rattle.board.specs.declared.Part.{Part}
 use Rattle.command.specs.declared.Command.{Command}
-use Rattle.command.specs.declared.Command.TheVariants.{Nop, Ind, Krf, Oct, Krl, Move, NotListed}
+use Rattle.command.specs.declared.Command.TheVariants.{Nop, Ind, Krf, Oct, Krl, Move}
 use Rattle.command.specs.Answers.{number_of, value_of}
 use Rattle.command.specs.Commands.{command_of, command_for}
 use Rattle.command.specs.Held.{is_read_held, is_write_held}
@@ -30,7 +31,7 @@ use Rattle.processor.specs.declared.state.Processor.{Processor}
 use Rattle.processor.specs.States.{Chip, chip, register_of, powered_up, with_register}
 use Rattle.processor.specs.Pointers.{pointer_of}
 use Rattle.processor.specs.Bytes.{stored}
-use Rattle.processor.specs.Access.{Outcome, is_unlisted, is_astray, is_unfitted, effect, addresses_of, written, read_out, phased}
+use Rattle.processor.specs.Access.{Outcome, is_astray, is_unfitted, effect, addresses_of, written, read_out, phased}
 use Rattle.processor.specs.Moves.{carried_all, passed_on, position, position_of, moved}
 use Rattle.processor.specs.Draws.{DrawOutcome, drawn_page, drawn}
 use Rattle.processor.specs.Sizes.{Sized}
@@ -183,11 +184,11 @@ ends bytes aux (suc n) w h l =
 
 -- the start of a move
 started :
-    (o : Operation) (w : World) (bytes : ℕ) (aux stops : Bool) → Sized w.processor → memory_lent o ≡ own → command_run o w ≡ Move bytes aux stops →
+    (o : Operation) (w : World) (bytes : ℕ) (aux stops : Bool) → Sized w.processor → memory_lent o ≡ own → command_run o w ≡ Some (Move bytes aux stops) →
     Moving bytes aux stops (step o w)
 unfolding pointer_of
 started o w bytes aux stops s m e =
-    let c = Move bytes aux stops in
+    let c = Some (Move bytes aux stops) in
     let ran = command_ran o w c refl e in
     let whole = ap (λ (x : Lent). length (lent_of x w.memory)) (sym m) ∙ ran.2 ∙ ap bytes_of (registered_blocks o w) in
     record {
@@ -205,11 +206,11 @@ pub move_goes_on : MoveGoesOn
 move_goes_on o w bytes aux n s m e = endless bytes aux n (step o w) (started o w bytes aux false s m e)
 
 -- a NOP, 90 or 91, which 10 does not refuse
-nop_free : (part : Part) (v : ℕ) → 0x90 ≤ v → v ≤ 0x91 → (is_write_held 0x28 v ≡ false) × (command_for part v ≡ Nop)
+nop_free : (part : Part) (v : ℕ) → 0x90 ≤ v → v ≤ 0x91 → (is_write_held 0x28 v ≡ false) × (command_for part v ≡ Some Nop)
 unfolding is_write_held command_of
 nop_free part v a b =
-    ⊎_elim (λ (e : v ≡ 0x90). rw e (refl, named part 0x90 Nop refl (lists_nop part)))
-    (λ (n : v ≡ 0x90 → ⊥). let e : v ≡ 0x91 = omega (arith, n) in rw e (refl, named part 0x91 Nop refl (lists_nop part))) (eq_or_ne v 0x90)
+    ⊎_elim (λ (e : v ≡ 0x90). rw e (refl, named part 0x90 (Some Nop) refl (lists_nop part)))
+    (λ (n : v ≡ 0x90 → ⊥). let e : v ≡ 0x91 = omega (arith, n) in rw e (refl, named part 0x91 (Some Nop) refl (lists_nop part))) (eq_or_ne v 0x90)
 
 pub nop_ends : NopEnds
 nop_ends v w a b m s =
@@ -217,8 +218,8 @@ nop_ends v w a b m s =
     let nop = nop_free w.processor.part v a b in
     let free : (w.processor.busy && is_write_held 0x28 v) ≡ false = ap (λ (t : Bool). w.processor.busy && t) nop.0 ∙ and-false w.processor.busy in
     let whole = eqb-true _ _ m in
-    let answered = execute_reply w whole s v free Nop nop.1 refl refl refl in
-    let is : command_in (after_write 0x28 v k) ≡ Nop = ap (command_for w.processor.part) (command_there w whole s v free) ∙ nop.1 in (
+    let answered = execute_reply w whole s v free (Some Nop) nop.1 refl refl refl in
+    let is : command_in (after_write 0x28 v k) ≡ Some Nop = ap (command_for w.processor.part) (command_there w whole s v free) ∙ nop.1 in (
       answered,
       write_known (λ (o : Outcome). number_of o.answer ≡ 0 → o.left.processor.busy ≡ false) 0x28 v k
           (record {
@@ -229,7 +230,7 @@ nop_ends v w a b m s =
             not_listed = λ m a b x u e. absurd (omega arith);
             bad_pointer = λ m a b x u s e. absurd (omega arith);
             not_fitted = λ m a b x u s f e. absurd (omega arith);
-            accepted = λ m a b x u s f e. ap (λ (c : Command). (effect c (chip (after_write 0x28 v k) w.memory)).processor.busy) is;
+            accepted = λ m a b x u s f e. ap (λ (c : Option Command). (effect c (chip (after_write 0x28 v k) w.memory)).processor.busy) is;
           })
           (ap (λ (r : Reply). r.number) answered),
     )
@@ -248,7 +249,7 @@ abbrev SoundChip : Chip → Type 0
 SoundChip k = Sound k.processor
 
 -- while busy, a write that is not refused executes a NOP, and a read that is not refused executes nothing
-busy_write : (part : Part) (address v : ℕ) → is_write_held address v ≡ false → (bits 0 4 address ≡ 8) × (command_for part v ≡ Nop)
+busy_write : (part : Part) (address v : ℕ) → is_write_held address v ≡ false → (bits 0 4 address ≡ 8) × (command_for part v ≡ Some Nop)
 unfolding is_write_held
 busy_write part address v e =
     let f = not-false _ e in
@@ -261,23 +262,23 @@ busy_read address e = let z : bits 0 4 address ≡ 0 = eqb-true _ _ (not-false _
 
 -- an effect: a move is known, a NOP ends one, and any other command runs while nothing does
 calm_sound :
-    (c : Command) (k : Chip) → turns_busy c ≡ false → (is_store c ≡ true → is_astray c k.processor ≡ false) → (k.processor.busy ≡ true → turns_busy c ≡ true) →
+    (c : Option Command) (k : Chip) → turns_busy c ≡ false → (is_store c ≡ true → is_astray c k.processor ≡ false) → (k.processor.busy ≡ true → turns_busy c ≡ true) →
     SoundChip (effect c k)
 calm_sound c k n g b t =
     let same = effect_keeps turns_busy _ (busy_kept k.processor.busy) c n k g refl in absurd (false≢true (sym n ∙ b (sym same ∙ t)))
 
 effect_sound :
-    (c : Command) (k : Chip) → command_in k.processor ≡ c → is_astray c k.processor ≡ false → is_unfitted c k.processor ≡ false →
+    (c : Option Command) (k : Chip) → command_in k.processor ≡ c → is_astray c k.processor ≡ false → is_unfitted c k.processor ≡ false →
     (k.processor.busy ≡ true → turns_busy c ≡ true) → SoundChip (effect c k)
 unfolding pointer_of
-effect_sound Nop k e s f b = λ t. absurd (false≢true t)
-effect_sound (Ind r reads) k e s f b = calm_sound (Ind r reads) k refl (λ z. s) b
-effect_sound (Krf reads increments) k e s f b = calm_sound (Krf reads increments) k refl (λ z. s) b
-effect_sound (Oct reads auxiliary increments) k e s f b = calm_sound (Oct reads auxiliary increments) k refl (λ z. s) b
-effect_sound (Krl reads increments) k e s f b = calm_sound (Krl reads increments) k refl (λ z. s) b
-effect_sound (Move bytes auxiliary stops) k e s f b =
+effect_sound (Some Nop) k e s f b = λ t. absurd (false≢true t)
+effect_sound (Some (Ind r reads)) k e s f b = calm_sound (Some (Ind r reads)) k refl (λ z. s) b
+effect_sound (Some (Krf reads increments)) k e s f b = calm_sound (Some (Krf reads increments)) k refl (λ z. s) b
+effect_sound (Some (Oct reads auxiliary increments)) k e s f b = calm_sound (Some (Oct reads auxiliary increments)) k refl (λ z. s) b
+effect_sound (Some (Krl reads increments)) k e s f b = calm_sound (Some (Krl reads increments)) k refl (λ z. s) b
+effect_sound (Some (Move bytes auxiliary stops)) k e s f b =
     λ t. record { bytes = bytes; aux = auxiliary; stops = stops; runs = record { is = e; astray = s; unfitted = f } }
-effect_sound NotListed k e s f b = calm_sound NotListed k refl (λ z. s) b
+effect_sound None k e s f b = calm_sound None k refl (λ z. s) b
 
 write_sound : (address v : ℕ) (k : Chip) → Sized k.processor → SoundChip k → SoundChip (written address v k).left
 write_sound address v k z h =
@@ -289,16 +290,16 @@ write_sound address v k z h =
       wrong_address = λ m a. h;
       busy = λ m a b. h;
       not_executed = λ m a b x t. absurd (false≢true (sym x ∙ executes (busy_write p.part address v (and_none p.busy held b t)).0));
-      not_listed = λ m a b x u t. absurd (false≢true (sym (ap is_unlisted (is b t)) ∙ u));
-      bad_pointer = λ m a b x u s t. absurd (false≢true (sym (ap (λ (c : Command). is_astray c p) (is b t)) ∙ s));
-      not_fitted = λ m a b x u s f t. absurd (false≢true (sym (ap (λ (c : Command). is_unfitted c p) (is b t)) ∙ f));
+      not_listed = λ m a b x u t. absurd (false≢true (sym (ap is_none (is b t)) ∙ u));
+      bad_pointer = λ m a b x u s t. absurd (false≢true (sym (ap (λ (c : Option Command). is_astray c p) (is b t)) ∙ s));
+      not_fitted = λ m a b x u s f t. absurd (false≢true (sym (ap (λ (c : Option Command). is_unfitted c p) (is b t)) ∙ f));
       accepted = λ m a b x u s f. effect_sound (command_in p) (chip p k.memory) refl s f (λ t. ap turns_busy (is b t));
     })
   where
     executes : bits 0 4 address ≡ 8 → is_set 3 address ≡ true
     executes e = eq-eqb (address / 8 % 2) 1 (omega (arith, e))
 
-    is : ((after_write address v k).busy && is_write_held address v) ≡ false → k.processor.busy ≡ true → command_in (after_write address v k) ≡ Nop
+    is : ((after_write address v k).busy && is_write_held address v) ≡ false → k.processor.busy ≡ true → command_in (after_write address v k) ≡ Some Nop
     is b t =
         let w = busy_write k.processor.part address v (and_none k.processor.busy (is_write_held address v) b t) in
         let zero : bits 0 3 address ≡ 0 = omega (arith, w.0) in
@@ -373,5 +374,5 @@ move_fitted part blocks m rom picture os busy =
     let x =
     (run_known (λ os u. Sized u.processor × Sound u.processor) (λ o os u h. (step_sized o u h.0, step_sound o u h.0 h.1)) os w
     (power_up_sized part blocks, power_up_sound part blocks)).1 busy in
-    subst (λ (c : Command). (is_move c ≡ true) × (all_fitted (addresses_of c p) ≡ true)) (sym x.runs.is)
-    (refl, all_fitted_lem (addresses_of (Move x.bytes x.aux x.stops) p) x.runs.astray x.runs.unfitted)
+    subst (λ (c : Option Command). (is_move c ≡ true) × (all_fitted (addresses_of c p) ≡ true)) (sym x.runs.is)
+    (refl, all_fitted_lem (addresses_of (Some (Move x.bytes x.aux x.stops)) p) x.runs.astray x.runs.unfitted)

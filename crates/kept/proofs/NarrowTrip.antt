@@ -1,5 +1,6 @@
 -- Demand 2: a 12-bit code written to R1 and R3 and stored by KRL is the one that KRL reads back.
 -- Assumes nothing.
+use Rattle.std.specs.Prelude.{Some}
 use Prim.Native.Nat.{ℕ}
 use mathlib.Core.Path.{◌≡◌, refl, ap, ◌∙◌}
 use mathlib.Core.Bool.{Bool, true, false}
@@ -26,14 +27,14 @@ use Rattle.kept.proofs.RoundTrip.{narrow_kept_in}
 use Rattle.kept.proofs.Sizes.{run_sized, power_up_sized}
 use Rattle.kept.proofs.Trips.{Trip, storing, reading, back, end}
 
-krl_code_lem : (reads increments : Bool) → command_of (krl_code reads increments) ≡ Krl reads increments
+krl_code_lem : (reads increments : Bool) → command_of (krl_code reads increments) ≡ Some (Krl reads increments)
 unfolding command_of
 krl_code_lem true true = refl
 krl_code_lem true false = refl
 krl_code_lem false true = refl
 krl_code_lem false false = refl
 
-krl_uses : (reads increments : Bool) → Uses Ef9345 false narrow_addresses (krl_code reads increments) (Krl reads increments)
+krl_uses : (reads increments : Bool) → Uses Ef9345 false narrow_addresses (krl_code reads increments) (Some (Krl reads increments))
 krl_uses reads increments = record { is = named Ef9345 _ _ (krl_code_lem reads increments) refl; listed = refl; calm = refl; at = λ p. refl }
 
 -- what they hold at the end
@@ -59,7 +60,7 @@ module _ (r6 r7 c a : ℕ) where
       (i j : Bool) (w : World) (o : w.processor.part ≡ Ef9345) (g : all_fitted (narrow_addresses w.processor.blocks (main_pointer Ef9345 r6 r7)) ≡ true)
       (long : Whole w) (calm : Idle w) (s : Sized w.processor) (between : List Operation)
       (rests : Idle (run between (step (execute (krl_code false i)) (run (puts coded) w)))) where
-    abbrev journey : Journey Ef9345 false narrow_addresses (main_pointer Ef9345 r6 r7) Codes (Krl false i) (Krl true j)
+    abbrev journey : Journey Ef9345 false narrow_addresses (main_pointer Ef9345 r6 r7) Codes (Some (Krl false i)) (Some (Krl true j))
     journey =
         record {
           pointers = pointer;

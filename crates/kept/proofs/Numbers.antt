@@ -1,5 +1,6 @@
 -- Demand 1: the number answered is that of the first condition, in the order of the rules, that holds, and the rules say what comes with it.
 -- Assumes nothing.
+use Rattle.std.specs.Prelude.{Result, Ok, Err}
 use Prim.Native.Nat.{ℕ}
 use mathlib.Core.Path.{◌≡◌, refl, ap, ◌∙◌}
 use mathlib.Core.Bool.{Bool}
@@ -10,8 +11,8 @@ use Rattle.basics.proofs.Choice.{pick_same}
 use Rattle.basics.specs.Choice.{pick}
 use Rattle.page.specs.Marks.{marked_rows}
 use Rattle.processor.specs.declared.state.Processor.{Processor}
-use Rattle.command.specs.declared.answer.Drawing.{Drawing}
-use Rattle.command.specs.declared.answer.Drawing.TheVariants as drawing
+use Rattle.command.specs.declared.answer.DrawRefusal.{DrawRefusal}
+use Rattle.command.specs.declared.answer.DrawRefusal.TheVariants as drawing
 use Rattle.command.specs.Answers.{number_of, value_of, draw_number_of, rows_of}
 use Rattle.processor.specs.States.{Chip}
 use Rattle.processor.specs.Access.{Outcome}
@@ -49,13 +50,13 @@ either_zero : (n : ℕ) → ◌≡◌ {A = ℕ} (pick (is_early n) 0 0) 0
 either_zero n = pick_same {A = ℕ} (is_early n) 0
 
 -- a refused draw has no rows
-refused_rows : (a : Drawing) (n : ℕ) → draw_number_of a ≢ 0 → rows_of a ≡ pick (eqb (draw_number_of a) 0) n 0
-refused_rows (drawing.Accepted rows) n refused = absurd (refused refl)
-refused_rows drawing.WrongMemory n refused = refl
-refused_rows drawing.WrongRom n refused = refl
-refused_rows drawing.WrongPicture n refused = refl
-refused_rows drawing.NotBuilt n refused = refl
-refused_rows drawing.LowOrigin n refused = refl
+refused_rows : (a : Result ℕ DrawRefusal) (n : ℕ) → draw_number_of a ≢ 0 → rows_of a ≡ pick (eqb (draw_number_of a) 0) n 0
+refused_rows (Ok rows) n refused = absurd (refused refl)
+refused_rows (Err drawing.WrongMemory) n refused = refl
+refused_rows (Err drawing.WrongRom) n refused = refl
+refused_rows (Err drawing.WrongPicture) n refused = refl
+refused_rows (Err drawing.NotBuilt) n refused = refl
+refused_rows (Err drawing.LowOrigin) n refused = refl
 
 draw_answer :
     (p : Processor) (m rom picture : List ℕ) →

@@ -1,13 +1,13 @@
 -- A round trip by commands that have a pointer, whichever they are: the pointers and the values are written, and the two commands run.
 -- Assumes nothing.
+use Rattle.std.specs.Prelude.{Option, is_none}
 use Prim.Native.Nat.{ℕ}
 use mathlib.Core.Path.{◌≡◌, sym, ap, subst, ◌∙◌}
 use mathlib.Core.Bool.{Bool, true, false}
 use mathlib.Core.List.{List, ◌∷◌, ◌++◌}
 use lib.ListN.{length, get_or, set}
 use Rattle.basics.specs.Choice.{pick}
-use Rattle.address.specs.Addresses.{is_illegal, is_not_fitted, some_address, all_fitted}
-use Rattle.address.specs.declared.answer.Address.{Address}
+use Rattle.address.specs.Addresses.{Address, is_illegal, is_not_fitted, some_address, all_fitted}
 use Rattle.address.proofs.Fits.{all_illegal, all_bare}
 use Rattle.board.specs.declared.Part.{Part}
 use Rattle.address.specs.Pointers.{main_pointer, auxiliary_pointer}
@@ -15,7 +15,7 @@ use Rattle.address.specs.declared.triple.Triple.{Triple}
 use Rattle.command.specs.declared.Command.{Command}
 use Rattle.command.specs.Commands.{command_for}
 use Rattle.processor.specs.declared.state.Processor.{Processor}
-use Rattle.processor.specs.Access.{addresses_of, is_unlisted, is_astray, is_unfitted}
+use Rattle.processor.specs.Access.{addresses_of, is_astray, is_unfitted}
 use Rattle.processor.specs.Pointers.{pointer_of}
 use Rattle.processor.specs.States.{with_registers}
 use Rattle.processor.specs.Sizes.{Sized}
@@ -36,15 +36,15 @@ point_in part auxiliary l =
     pick auxiliary (auxiliary_pointer part (get_or l 4 0) (get_or l 5 0) (get_or l 6 0)) (main_pointer part (get_or l 6 0) (get_or l 7 0))
 
 -- a command that uses it, with the addresses that it asks for there on a board
-pub record Uses (part : Part) (auxiliary : Bool) (asked : ℕ → Triple → List Address) (code : ℕ) (c : Command) : Type 0 where
+pub record Uses (part : Part) (auxiliary : Bool) (asked : ℕ → Triple → List Address) (code : ℕ) (c : Option Command) : Type 0 where
   pub is : command_for part code ≡ c
-  pub listed : is_unlisted c ≡ false
+  pub listed : is_none c ≡ false
   pub calm : turns_busy c ≡ false
   pub at : (p : Processor) → addresses_of c p ≡ asked p.blocks (pointer_of auxiliary p)
 
 -- pointers and values are written from a world w; c stores, and d reads after the operations between
 pub record Journey
-    (part : Part) (auxiliary : Bool) (asked : ℕ → Triple → List Address) (meaning : Triple) (Means : List ℕ → Type 0) (c d : Command)
+    (part : Part) (auxiliary : Bool) (asked : ℕ → Triple → List Address) (meaning : Triple) (Means : List ℕ → Type 0) (c d : Option Command)
     : Type 0 where
   pub pointers : List Put
   pub values : List Put
@@ -69,7 +69,7 @@ pub record Journey
   pub rests : Idle (run between (step (execute store) (run (puts (pointers ++ values)) from)))
 
 module _
-    (part : Part) (x : Bool) (asked : ℕ → Triple → List Address) (meaning : Triple) (Means : List ℕ → Type 0) (c d : Command)
+    (part : Part) (x : Bool) (asked : ℕ → Triple → List Address) (meaning : Triple) (Means : List ℕ → Type 0) (c d : Option Command)
     (j : Journey part x asked meaning Means c d) where
   abbrev writes : List Put
   writes = j.pointers ++ j.values
@@ -130,7 +130,7 @@ module _
 
   -- it is legal with all its bytes fitted, so both commands run
   straight :
-      (e : Command) (p : Processor) → ((q : Processor) → addresses_of e q ≡ asked q.blocks (pointer_of x q)) → pointer_of x p ≡ meaning →
+      (e : Option Command) (p : Processor) → ((q : Processor) → addresses_of e q ≡ asked q.blocks (pointer_of x q)) → pointer_of x p ≡ meaning →
       p.blocks ≡ j.from.processor.blocks → (is_astray e p ≡ false) × (is_unfitted e p ≡ false)
   straight e p at ep eb =
       let there = asked j.from.processor.blocks meaning in

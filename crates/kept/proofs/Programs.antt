@@ -1,5 +1,6 @@
 -- Programs: registers written, a command executed, registers read.
 -- Assumes nothing.
+use Rattle.std.specs.Prelude.{Option, is_none}
 use Prim.Native.Nat.{ℕ, ◌+◌, ◌<◌, ◌≤◌, ◌%◌}
 use mathlib.Core.Path.{◌≡◌, refl, ap, ◌∙◌}
 use mathlib.Core.Bool.{false, ◌&&◌}
@@ -13,7 +14,7 @@ use Rattle.command.specs.Commands.{command_for}
 use Rattle.command.specs.Held.{is_write_held}
 use Rattle.processor.specs.declared.state.Processor.{Processor}
 use Rattle.processor.specs.States.{chip, register_of, register_read, with_register, with_registers}
-use Rattle.processor.specs.Access.{Outcome, is_unlisted, is_astray, is_unfitted, effect}
+use Rattle.processor.specs.Access.{Outcome, is_astray, is_unfitted, effect}
 use Rattle.processor.specs.Sizes.{Sized}
 use Rattle.kept.specs.Demands.{put, get, execute, Idle}
 use Rattle.kept.specs.Orders.{first_of, order}
@@ -88,7 +89,7 @@ module _ (w : World) (whole : Whole w) (s : Sized w.processor) (code : ℕ) (fre
   command_there = get_or-set_same w.processor.registers 0 code 0 (rw s.0 (omega arith))
 
   module _
-      (c : Command) (is : command_for w.processor.part code ≡ c) (u : is_unlisted c ≡ false) (a : is_astray c (with_register w.processor 0 code) ≡ false)
+      (c : Option Command) (is : command_for w.processor.part code ≡ c) (u : is_none c ≡ false) (a : is_astray c (with_register w.processor 0 code) ≡ false)
       (f : is_unfitted c (with_register w.processor 0 code) ≡ false) where
     first_none : first_of (order (execute code) w) ≡ 0
     first_none = rw (eq-eqb _ _ whole, free, command_there, is, u, a, f)

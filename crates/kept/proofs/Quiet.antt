@@ -1,5 +1,6 @@
 -- Operations that store nothing leave the memory, and so does a run of them.
 -- Assumes nothing.
+use Rattle.std.specs.Prelude.{Some}
 use Prim.Native.Nat.{ℕ}
 use mathlib.Core.Path.{◌≡◌, refl, sym, ◌∙◌}
 use mathlib.Core.Bool.{Bool, false, ◌&&◌, false≢true}
@@ -31,7 +32,7 @@ unstored m =
 
 -- an access whose command, if it is accepted, stores nothing
 abbrev Silent : ℕ → Processor → Outcome → Type 0
-Silent address p o = is_store (pick (is_set 3 address && eqb (number_of o.answer) 0) (command_in p) Nop) ≡ false
+Silent address p o = is_store (pick (is_set 3 address && eqb (number_of o.answer) 0) (command_in p) (Some Nop)) ≡ false
 
 access_quiet :
     (address : ℕ) (held : Bool) (v : ℕ) (k : Chip) (p : Processor) → Ends address held v k p (λ (o : Outcome). Silent address p o → o.left.memory ≡ k.memory)

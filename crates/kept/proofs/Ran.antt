@@ -1,5 +1,6 @@
 -- An operation that is accepted and asks for execution has run its command, where all its bytes are legal and fitted.
 -- Assumes nothing.
+use Rattle.std.specs.Prelude.{Option, Some, None}
 use Prim.Native.Nat.{ℕ}
 use mathlib.Core.Path.{◌≡◌, refl, sym, ap, ◌∙◌}
 use mathlib.Core.Bool.{Bool, true, false, ◌&&◌, false≢true}
@@ -13,7 +14,7 @@ use Rattle.basics.specs.Choice.{pick}
 use Rattle.basics.proofs.Choice.{and_left, and_right}
 use Rattle.board.specs.Boards.{bytes_of}
 use Rattle.command.specs.declared.Command.{Command}
-use Rattle.command.specs.declared.Command.TheVariants.{Nop, Ind, Krf, Oct, Krl, Move, NotListed}
+use Rattle.command.specs.declared.Command.TheVariants.{Nop, Ind, Krf, Oct, Krl, Move}
 use Rattle.command.specs.Answers.{number_of}
 use Rattle.processor.specs.declared.state.Processor.{Processor}
 use Rattle.processor.specs.States.{Chip, chip}
@@ -23,7 +24,7 @@ use Rattle.kept.specs.Runs.{Operation, write, read, turn, move, draw, World, don
 use Rattle.kept.proofs.Walk.{Ends, command_in, write_known, read_known}
 
 -- c is the command, k what the register access left
-abbrev Ran : Command → Chip → Processor → List ℕ → Type 0
+abbrev Ran : Option Command → Chip → Processor → List ℕ → Type 0
 Ran c k p m =
     (p ≡ (effect c k).processor) × (m ≡ (effect c k).memory) × (length k.memory ≡ bytes_of k.processor.blocks)
     × (is_astray c k.processor ≡ false) × (is_unfitted c k.processor ≡ false)
@@ -64,21 +65,21 @@ accepted_ran (turn x n) w a e = absurd (false≢true a)
 accepted_ran (move x) w a e = absurd (false≢true a)
 accepted_ran (draw x y z) w a e = absurd (false≢true a)
 
-abbrev pub is_nop : Command → Bool
-is_nop Nop = true
-is_nop (Ind r reads) = false
-is_nop (Krf reads increments) = false
-is_nop (Oct reads auxiliary increments) = false
-is_nop (Krl reads increments) = false
-is_nop (Move bytes auxiliary stops) = false
-is_nop NotListed = false
+abbrev pub is_nop : Option Command → Bool
+is_nop (Some Nop) = true
+is_nop (Some (Ind r reads)) = false
+is_nop (Some (Krf reads increments)) = false
+is_nop (Some (Oct reads auxiliary increments)) = false
+is_nop (Some (Krl reads increments)) = false
+is_nop (Some (Move bytes auxiliary stops)) = false
+is_nop None = false
 
-picked : (b : Bool) (c d : Command) → pick b c Nop ≡ d → is_nop d ≡ false → (b ≡ true) × (c ≡ d)
+picked : (b : Bool) (c d : Option Command) → pick b c (Some Nop) ≡ d → is_nop d ≡ false → (b ≡ true) × (c ≡ d)
 picked true c d e n = (refl, e)
 picked false c d e n = absurd (false≢true (sym n ∙ ap is_nop (sym e)))
 
 -- it is the command in R0, on the same board
-pub command_named : (o : Operation) (w : World) (c : Command) → is_nop c ≡ false → command_run o w ≡ c → command_in (registered o w) ≡ c
+pub command_named : (o : Operation) (w : World) (c : Option Command) → is_nop c ≡ false → command_run o w ≡ c → command_in (registered o w) ≡ c
 command_named o w c n e = (picked (asks o && eqb (done o w).number 0) (command_in (registered o w)) c (rw (registered_part o w) e) n).1
 
 pub registered_blocks : (o : Operation) (w : World) → (registered o w).blocks ≡ w.processor.blocks
@@ -89,7 +90,7 @@ registered_blocks (move x) w = refl
 registered_blocks (draw x y z) w = refl
 
 pub command_ran :
-    (o : Operation) (w : World) (c : Command) → is_nop c ≡ false → command_run o w ≡ c → Ran c (at_command o w) (done o w).processor (done o w).memory
+    (o : Operation) (w : World) (c : Option Command) → is_nop c ≡ false → command_run o w ≡ c → Ran c (at_command o w) (done o w).processor (done o w).memory
 command_ran o w c n e =
     let p = picked (asks o && eqb (done o w).number 0) (command_in (registered o w)) c (rw (registered_part o w) e) n in
     let a = and_left (asks o) (eqb (done o w).number 0) p.0 in

@@ -1,5 +1,6 @@
 -- Demand 1: each number of an operation is given, after a run of operations from power-up. The memory, the ROM and the picture are of zeros.
 -- Assumes nothing.
+use Rattle.std.specs.Prelude.{Some}
 use Prim.Native.Nat.{ℕ, ◌<◌}
 use mathlib.Core.Path.{◌≡◌, refl, sym, ap, subst, ◌∙◌}
 use mathlib.Core.Bool.{true, false}
@@ -169,20 +170,20 @@ abbrev pub set_in : World → ℕ → ℕ → ℕ → World
 set_in w v code r = world_with w (indirect_written (with_register (with_register w.processor 1 v) 0 code) r) w.memory w.picture
 
 pub setting_in :
-    (w : World) → Whole w → Idle w → Sized w.processor → (v code r : ℕ) → command_of code ≡ Ind r false →
+    (w : World) → Whole w → Idle w → Sized w.processor → (v code r : ℕ) → command_of code ≡ Some (Ind r false) →
     run (setting v code) w ≡ set_in w v code r
 unfolding indirect
 setting_in w whole idle s v code r is =
     ap (step (execute code)) (put_step w whole idle 1 v (omega arith))
-    ∙ execute_step (written_in w 1 v) whole (length-set w.processor.registers 1 v ∙ s.0, s.1, s.2) code (idle_free (written_in w 1 v) code idle) (Ind r false)
-    (named w.processor.part code (Ind r false) is (lists_ind w.processor.part r false)) refl refl refl refl
+    ∙ execute_step (written_in w 1 v) whole (length-set w.processor.registers 1 v ∙ s.0, s.1, s.2) code (idle_free (written_in w 1 v) code idle) (Some (Ind r false))
+    (named w.processor.part code (Some (Ind r false)) is (lists_ind w.processor.part r false)) refl refl refl refl
 
 -- the same from power-up
 module _ (part : Part) (blocks : ℕ) where
   abbrev pub set_up : ℕ → ℕ → ℕ → World
   set_up v code r = set_in (start part blocks) v code r
 
-  pub setting_up : (v code r : ℕ) → command_of code ≡ Ind r false → run (setting v code) (start part blocks) ≡ set_up v code r
+  pub setting_up : (v code r : ℕ) → command_of code ≡ Some (Ind r false) → run (setting v code) (start part blocks) ≡ set_up v code r
   setting_up = setting_in (start part blocks) (start_whole part blocks) (start_idle part blocks) (power_up_sized part blocks)
 
 -- 128 in TGS
@@ -221,8 +222,8 @@ gives_10 =
       fair = (tt, (tt, tt));
       happens =
           subst (λ (w : World). (done (put 1 0) w).number ≡ 10)
-          (sym (execute_step at_first (start_whole Ef9345 full_board) (power_up_sized Ef9345 full_board) 0xD5 (idle_free at_first 0xD5 (start_idle Ef9345 full_board)) (Move 1 false true) refl refl refl refl refl))
-          (number_first (put 1 0) (world_with at_first (effect (Move 1 false true) k).processor (effect (Move 1 false true) k).memory picture)
+          (sym (execute_step at_first (start_whole Ef9345 full_board) (power_up_sized Ef9345 full_board) 0xD5 (idle_free at_first 0xD5 (start_idle Ef9345 full_board)) (Some (Move 1 false true)) refl refl refl refl refl))
+          (number_first (put 1 0) (world_with at_first (effect (Some (Move 1 false true)) k).processor (effect (Some (Move 1 false true)) k).memory picture)
           ∙ rw (long memory_bytes));
     }
 

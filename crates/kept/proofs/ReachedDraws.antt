@@ -1,6 +1,7 @@
 -- Demand 1: a draw of 25 rows of either part, one of some and not all, and one of 80 columns after one of 40 is accepted after a run of
 -- operations from power-up.
 -- Assumes nothing.
+use Rattle.std.specs.Prelude.{Some}
 use Prim.Native.Nat.{ℕ, ◌<◌}
 use mathlib.Core.Path.{◌≡◌, refl, sym, ap, subst, ◌∙◌}
 use mathlib.Core.Bool.{Bool, true, false, ◌||◌, false≢true}
@@ -63,7 +64,7 @@ unlisted : on_list plainly (zeros memory_bytes) 0 1 ≡ false
 unfolding zeros on_list row_holds code_holds code_address address_of on_page legal_y any_below slices_hold cell_holds has_tall above_holds code_at place_of row_y cell_of bichrome_of ef9345_set is_tall is_eighty
 unlisted = refl
 
-ror_listed : command_of 0x87 ≡ Ind 7 false
+ror_listed : command_of 0x87 ≡ Some (Ind 7 false)
 unfolding command_of
 ror_listed = refl
 
@@ -167,7 +168,7 @@ after_store =
 storing : step (execute 0x30) after_draw ≡ after_store
 unfolding command_of command_for powered_up indirect_written pointer_of address_of on_page legal_y place_of
 storing =
-    execute_step after_draw (long memory_bytes) (refl, refl, length_table (λ r. false) 25) 0x30 (idle_free after_draw 0x30 refl) (Oct false false false) refl refl refl refl refl
+    execute_step after_draw (long memory_bytes) (refl, refl, length_table (λ r. false) 25) 0x30 (idle_free after_draw 0x30 refl) (Some (Oct false false false)) refl refl refl refl refl
 
 -- then row 0 is marked, and row 1 is not
 abbrev marked : ℕ → Bool
@@ -229,7 +230,7 @@ draws_some =
 abbrev turned : World
 turned = set_in after_draw 0xC0 0x81 1
 
-tgs_listed : command_of 0x81 ≡ Ind 1 false
+tgs_listed : command_of 0x81 ≡ Some (Ind 1 false)
 unfolding command_of
 tgs_listed = refl
 

@@ -1,6 +1,7 @@
 -- Demand 2's round trip: what an accepted KRF, OCT or KRL stores, a later one reads at a pointer with the same X, Y and Z, whatever the state has
 -- become, where nothing is stored between them.
 -- Assumes nothing.
+use Rattle.std.specs.Prelude.{Option, Some}
 use Prim.Native.Nat.{ℕ, zero, suc, ◌<◌, ◌≤◌}
 use mathlib.Core.Path.{◌≡◌, refl, sym, ap, ◌∙◌}
 use mathlib.Core.Bool.{Bool, true, false, ◌&&◌}
@@ -188,7 +189,7 @@ module _ (w : World) (s : Sized w.processor) (o : Operation) (between : List Ope
   eight_then = registered_eight q u (run_sized between (step o w) (step_sized o w s))
 
   -- c stores at a legal pointer and leaves m; d reads
-  module _ (c d : Command) (nc : is_nop c ≡ false) (nd : is_nop d ≡ false) (oo : memory_lent o ≡ own) (oq : memory_lent q ≡ own)
+  module _ (c d : Option Command) (nc : is_nop c ≡ false) (nd : is_nop d ≡ false) (oo : memory_lent o ≡ own) (oq : memory_lent q ≡ own)
       (ec : command_run o w ≡ c) (ed : command_run q u ≡ d) (quiet : Quiet between (step o w)) where
     then_stored : u.memory ≡ (effect c (chip (registered o w) w.memory)).memory
     then_stored =
@@ -206,33 +207,33 @@ module _ (w : World) (s : Sized w.processor) (o : Operation) (between : List Ope
     whole_then = ap length (sym (lent_own (memory_lent o) w.memory oo)) ∙ (command_ran o w c nc ec).2
 
   pub code_kept_in :
-      (i j : Bool) → memory_lent o ≡ own → command_run o w ≡ Krf false i → Quiet between (step o w) →
-      memory_lent q ≡ own → command_run q u ≡ Krf true j → pointer_of false (registered q u) ≡ pointer_of false (registered o w) →
+      (i j : Bool) → memory_lent o ≡ own → command_run o w ≡ Some (Krf false i) → Quiet between (step o w) →
+      memory_lent q ≡ own → command_run q u ≡ Some (Krf true j) → pointer_of false (registered q u) ≡ pointer_of false (registered o w) →
       (n : ℕ) → 1 ≤ n → n ≤ 3 → register_of (step q u).processor n ≡ register_of (registered o w) n
   code_kept_in i j oo ec quiet oq ed same n a b =
-      ap (λ (p : Processor). register_of p n) (then_read (Krf false i) (Krf true j) refl refl oo oq ec ed quiet)
-      ∙ round_code (registered o w) (registered q u) w.memory i j (let ran = command_ran o w (Krf false i) refl ec in code_legal _ _ ran.3 ran.4)
-      (whole_then (Krf false i) (Krf true j) refl refl oo oq ec ed quiet) same eight_then n a b
+      ap (λ (p : Processor). register_of p n) (then_read (Some (Krf false i)) (Some (Krf true j)) refl refl oo oq ec ed quiet)
+      ∙ round_code (registered o w) (registered q u) w.memory i j (let ran = command_ran o w (Some (Krf false i)) refl ec in code_legal _ _ ran.3 ran.4)
+      (whole_then (Some (Krf false i)) (Some (Krf true j)) refl refl oo oq ec ed quiet) same eight_then n a b
 
   pub byte_kept_in :
-      (x y i j : Bool) → memory_lent o ≡ own → command_run o w ≡ Oct false x i → Quiet between (step o w) →
-      memory_lent q ≡ own → command_run q u ≡ Oct true y j → pointer_of y (registered q u) ≡ pointer_of x (registered o w) →
+      (x y i j : Bool) → memory_lent o ≡ own → command_run o w ≡ Some (Oct false x i) → Quiet between (step o w) →
+      memory_lent q ≡ own → command_run q u ≡ Some (Oct true y j) → pointer_of y (registered q u) ≡ pointer_of x (registered o w) →
       register_of (step q u).processor 1 ≡ register_of (registered o w) 1
   byte_kept_in x y i j oo ec quiet oq ed same =
-      ap (λ (p : Processor). register_of p 1) (then_read (Oct false x i) (Oct true y j) refl refl oo oq ec ed quiet)
-      ∙ round_byte x y (registered o w) (registered q u) w.memory i j (let ran = command_ran o w (Oct false x i) refl ec in byte_legal _ _ ran.3 ran.4)
-      (whole_then (Oct false x i) (Oct true y j) refl refl oo oq ec ed quiet) same eight_then
+      ap (λ (p : Processor). register_of p 1) (then_read (Some (Oct false x i)) (Some (Oct true y j)) refl refl oo oq ec ed quiet)
+      ∙ round_byte x y (registered o w) (registered q u) w.memory i j (let ran = command_ran o w (Some (Oct false x i)) refl ec in byte_legal _ _ ran.3 ran.4)
+      (whole_then (Some (Oct false x i)) (Some (Oct true y j)) refl refl oo oq ec ed quiet) same eight_then
 
   pub narrow_kept_in :
-      (i j : Bool) → memory_lent o ≡ own → command_run o w ≡ Krl false i → Quiet between (step o w) →
-      memory_lent q ≡ own → command_run q u ≡ Krl true j → pointer_of false (registered q u) ≡ pointer_of false (registered o w) →
+      (i j : Bool) → memory_lent o ≡ own → command_run o w ≡ Some (Krl false i) → Quiet between (step o w) →
+      memory_lent q ≡ own → command_run q u ≡ Some (Krl true j) → pointer_of false (registered q u) ≡ pointer_of false (registered o w) →
       (register_of (step q u).processor 1 ≡ register_of (registered o w) 1)
       × (register_of (step q u).processor 3 ≡ both_halves (nibble_for (is_odd (pointer_of false (registered o w))) (register_of (registered o w) 3)))
   narrow_kept_in i j oo ec quiet oq ed same =
-      let then = then_read (Krl false i) (Krl true j) refl refl oo oq ec ed quiet in
-      let ran = command_ran o w (Krl false i) refl ec in
+      let then = then_read (Some (Krl false i)) (Some (Krl true j)) refl refl oo oq ec ed quiet in
+      let ran = command_ran o w (Some (Krl false i)) refl ec in
       let ok = narrow_legal _ _ ran.3 ran.4 in
-      let whole = whole_then (Krl false i) (Krl true j) refl refl oo oq ec ed quiet in (
+      let whole = whole_then (Some (Krl false i)) (Some (Krl true j)) refl refl oo oq ec ed quiet in (
         ap (λ (p : Processor). register_of p 1) then
             ∙ round_character (registered o w) (registered q u) w.memory i j ok whole same eight_then,
         ap (λ (p : Processor). register_of p 3) then
@@ -255,7 +256,7 @@ narrow_kept part blocks m rom picture before between o q i j =
 pub neighbour_kept : NeighbourKept
 unfolding krl
 neighbour_kept o w i oo ec =
-    let ran = command_ran o w (Krl false i) refl ec in
+    let ran = command_ran o w (Some (Krl false i)) refl ec in
     let p = registered o w in
     let t = pointer_of false p in
     let m = lent_of (memory_lent o) w.memory in

@@ -1,9 +1,10 @@
 -- What commands do to busy.
 -- Assumes nothing.
+use Rattle.std.specs.Prelude.{Option, Some, None}
 use mathlib.Core.Path.{◌≡◌, refl, sym, ◌∙◌}
 use mathlib.Core.Bool.{Bool, false, false≢true}
 use Rattle.command.specs.declared.Command.{Command}
-use Rattle.command.specs.declared.Command.TheVariants.{Nop, Ind, Krf, Oct, Krl, Move, NotListed}
+use Rattle.command.specs.declared.Command.TheVariants.{Nop, Ind, Krf, Oct, Krl, Move}
 use Rattle.processor.specs.States.{Chip, indirect_written}
 use Rattle.processor.specs.Bytes.{stored}
 use Rattle.kept.proofs.Ran.{is_nop}
@@ -21,11 +22,11 @@ busy_kept b =
       busy = λ c t n k d e. absurd (false≢true (sym n ∙ t));
     }
 
-pub no_nop : (c : Command) → turns_busy c ≡ false → is_nop c ≡ false
-no_nop Nop e = absurd (false≢true (sym e))
-no_nop (Ind r reads) e = refl
-no_nop (Krf reads increments) e = refl
-no_nop (Oct reads auxiliary increments) e = refl
-no_nop (Krl reads increments) e = refl
-no_nop (Move bytes auxiliary stops) e = refl
-no_nop NotListed e = refl
+pub no_nop : (c : Option Command) → turns_busy c ≡ false → is_nop c ≡ false
+no_nop (Some Nop) e = absurd (false≢true (sym e))
+no_nop (Some (Ind r reads)) e = refl
+no_nop (Some (Krf reads increments)) e = refl
+no_nop (Some (Oct reads auxiliary increments)) e = refl
+no_nop (Some (Krl reads increments)) e = refl
+no_nop (Some (Move bytes auxiliary stops)) e = refl
+no_nop None e = refl

@@ -2,16 +2,23 @@
 -- that its result and the memory after it make the outcome of the definition, and that of a draw likewise with the picture; two results
 -- that do so for the same input are the same.
 -- Assumes nothing.
+use Prim.Native.Nat.{ℕ}
 use mathlib.Core.Path.{sym, ap, ◌∙◌}
+use Rattle.std.specs.Prelude.{Result}
 use Rattle.processor.specs.declared.state.Processor.{Processor}
-use Rattle.command.specs.declared.answer.Answer.{Answer}
+use Rattle.command.specs.declared.answer.Refusal.{Refusal}
+use Rattle.command.specs.declared.answer.DrawRefusal.{DrawRefusal}
+use Rattle.processor.specs.declared.draw.Drawn.{Drawn}
 use Rattle.processor.specs.declared.execute.Answered.{Answered}
 use Rattle.processor.specs.Access.{Outcome}
-use Rattle.processor.specs.Draws.{DrawOutcome, drawn_with}
+use Rattle.processor.specs.Draws.{DrawOutcome}
 use Rattle.kept.specs.Demands.{OneAccess, OneDraw}
 
-abbrev answered_with : Processor → Answer → Answered
+abbrev answered_with : Processor → Result ℕ Refusal → Answered
 answered_with p a = record { processor = p; answer = a }
+
+abbrev drawn_with : Processor → Result ℕ DrawRefusal → Drawn
+drawn_with p a = record { processor = p; answer = a }
 
 -- write, read and turn
 pub one_access : OneAccess

@@ -1,6 +1,7 @@
 -- The walk through an operation, taken once. The ends of an access, of a phase change and of a draw, each with what is known there; and a
 -- property that each part of an access keeps is kept by every access.
 -- Assumes nothing.
+use Rattle.std.specs.Prelude.{Option, Some, None, IfSome, is_none, Result, Ok, Err}
 use Prim.Native.Nat.{ℕ, zero, suc}
 use mathlib.Core.Path.{◌≡◌, refl, sym, ap, ◌∙◌}
 use mathlib.Core.Bool.{Bool, true, false, not, ◌&&◌, ◌||◌}
@@ -22,10 +23,10 @@ use Rattle.shown.specs.Modes.{column_bytes}
 use Rattle.shown.specs.Refusals.{refused7, refused8, can_draw}
 use Rattle.processor.specs.declared.state.Processor.{Processor}
 use Rattle.command.specs.declared.Command.{Command}
-use Rattle.command.specs.declared.Command.TheVariants.{Nop, Ind, Krf, Oct, Krl, Move, NotListed}
-use Rattle.command.specs.declared.answer.Answer.TheVariants as answer
-use Rattle.command.specs.declared.answer.Drawing.{Drawing}
-use Rattle.command.specs.declared.answer.Drawing.TheVariants as drawing
+use Rattle.command.specs.declared.Command.TheVariants.{Nop, Ind, Krf, Oct, Krl, Move}
+use Rattle.command.specs.declared.answer.Refusal.TheVariants as answer
+use Rattle.command.specs.declared.answer.DrawRefusal.{DrawRefusal}
+use Rattle.command.specs.declared.answer.DrawRefusal.TheVariants as drawing
 use Rattle.command.specs.Answers.{draw_number_of}
 use Rattle.command.specs.Commands.{command_for, Asked}
 use Rattle.command.specs.Held.{is_read_held, is_write_held}
@@ -34,7 +35,7 @@ use Rattle.moves.specs.Onward.{is_last, main_x, across, down, onward}
 use Rattle.processor.specs.States.{Chip, chip, register_of, register_read, with_register, with_registers, with_lx, with_busy, indirect_written, shown_of}
 use Rattle.processor.specs.Pointers.{pointer_of, incremented, incremented_if, advanced, advanced_if}
 use Rattle.processor.specs.Bytes.{stored, oct, code_read, code_stored, krf, narrow_read, narrow_stored, krl}
-use Rattle.processor.specs.Access.{Outcome, outcome, is_unlisted, is_astray, is_unfitted, effect, indirect, ran, executed, is_whole, checked, written, read_out, phased, turned}
+use Rattle.processor.specs.Access.{Outcome, outcome, is_astray, is_unfitted, effect, indirect, ran, executed, is_whole, checked, written, read_out, phased, turned}
 use Rattle.processor.specs.Moves.{carried, carried_all, passed_on, position, position_of, moved, step_of, stepped}
 use Rattle.processor.proofs.Carrying.{move_pointer}
 use Rattle.processor.specs.Draws.{DrawOutcome, draw_outcome, drawn_page, drawn}
@@ -48,29 +49,29 @@ abbrev pub is_chosen : ℕ → Bool
 is_chosen address = eqb (bits 4 4 address) 2
 
 -- the command that would be executed
-abbrev pub command_in : Processor → Command
+abbrev pub command_in : Processor → Option Command
 command_in p = command_for p.part (register_of p 0)
 
 -- P at each end of an access to k that gives the value v and has left p of the state before its command, with what is known there; held are the accesses
 -- that 10 refuses while busy
 pub record Ends (address : ℕ) (held : Bool) (v : ℕ) (k : Chip) (p : Processor) (P : Outcome → Type 0) : Type 0 where
-  pub wrong_memory : is_whole (chip p k.memory) ≡ false → P (outcome k answer.WrongMemory)
-  pub wrong_address : is_whole (chip p k.memory) ≡ true → is_chosen address ≡ false → P (outcome k answer.WrongAddress)
-  pub busy : is_whole (chip p k.memory) ≡ true → is_chosen address ≡ true → (p.busy && held) ≡ true → P (outcome k answer.Busy)
+  pub wrong_memory : is_whole (chip p k.memory) ≡ false → P (outcome k (Err answer.WrongMemory))
+  pub wrong_address : is_whole (chip p k.memory) ≡ true → is_chosen address ≡ false → P (outcome k (Err answer.WrongAddress))
+  pub busy : is_whole (chip p k.memory) ≡ true → is_chosen address ≡ true → (p.busy && held) ≡ true → P (outcome k (Err answer.Busy))
   pub not_executed :
-      is_whole (chip p k.memory) ≡ true → is_chosen address ≡ true → (p.busy && held) ≡ false → is_set 3 address ≡ false → P (outcome (chip p k.memory) (answer.Accepted v))
+      is_whole (chip p k.memory) ≡ true → is_chosen address ≡ true → (p.busy && held) ≡ false → is_set 3 address ≡ false → P (outcome (chip p k.memory) (Ok v))
   pub not_listed :
-      is_whole (chip p k.memory) ≡ true → is_chosen address ≡ true → (p.busy && held) ≡ false → is_set 3 address ≡ true → is_unlisted (command_in p) ≡ true →
-      P (outcome (chip p k.memory) (answer.NotListed v))
+      is_whole (chip p k.memory) ≡ true → is_chosen address ≡ true → (p.busy && held) ≡ false → is_set 3 address ≡ true → is_none (command_in p) ≡ true →
+      P (outcome (chip p k.memory) (Err (answer.NotListed v)))
   pub bad_pointer :
-      is_whole (chip p k.memory) ≡ true → is_chosen address ≡ true → (p.busy && held) ≡ false → is_set 3 address ≡ true → is_unlisted (command_in p) ≡ false →
-      is_astray (command_in p) p ≡ true → P (outcome (chip p k.memory) (answer.BadPointer v))
+      is_whole (chip p k.memory) ≡ true → is_chosen address ≡ true → (p.busy && held) ≡ false → is_set 3 address ≡ true → is_none (command_in p) ≡ false →
+      is_astray (command_in p) p ≡ true → P (outcome (chip p k.memory) (Err (answer.BadPointer v)))
   pub not_fitted :
-      is_whole (chip p k.memory) ≡ true → is_chosen address ≡ true → (p.busy && held) ≡ false → is_set 3 address ≡ true → is_unlisted (command_in p) ≡ false →
-      is_astray (command_in p) p ≡ false → is_unfitted (command_in p) p ≡ true → P (outcome (chip p k.memory) (answer.NotFitted v))
+      is_whole (chip p k.memory) ≡ true → is_chosen address ≡ true → (p.busy && held) ≡ false → is_set 3 address ≡ true → is_none (command_in p) ≡ false →
+      is_astray (command_in p) p ≡ false → is_unfitted (command_in p) p ≡ true → P (outcome (chip p k.memory) (Err (answer.NotFitted v)))
   pub accepted :
-      is_whole (chip p k.memory) ≡ true → is_chosen address ≡ true → (p.busy && held) ≡ false → is_set 3 address ≡ true → is_unlisted (command_in p) ≡ false →
-      is_astray (command_in p) p ≡ false → is_unfitted (command_in p) p ≡ false → P (outcome (effect (command_in p) (chip p k.memory)) (answer.Accepted v))
+      is_whole (chip p k.memory) ≡ true → is_chosen address ≡ true → (p.busy && held) ≡ false → is_set 3 address ≡ true → is_none (command_in p) ≡ false →
+      is_astray (command_in p) p ≡ false → is_unfitted (command_in p) p ≡ false → P (outcome (effect (command_in p) (chip p k.memory)) (Ok v))
 
 access_known :
     (P : Outcome → Type 0) (address : ℕ) (held : Bool) (v : ℕ) (k : Chip) (p : Processor) → p.blocks ≡ k.processor.blocks →
@@ -89,7 +90,7 @@ access_known P address held v k p same runs ends =
     let b = holds ∙ h in
     pick_known P (is_set 3 address) _ _
     (λ x.
-    pick_known P (is_unlisted (command_in p)) _ _ (ends.not_listed m a b x)
+    pick_known P (is_none (command_in p)) _ _ (ends.not_listed m a b x)
     (λ u.
     pick_known P (is_astray (command_in p) p) _ _ (ends.bad_pointer m a b x u)
     (λ s. pick_known P (is_unfitted (command_in p) p) _ _ (ends.not_fitted m a b x u s) (ends.accepted m a b x u s))))
@@ -116,29 +117,29 @@ read_known P address k ends =
 
 -- the ends of a phase change
 pub turn_known :
-    (P : Outcome → Type 0) (n : ℕ) (k : Chip) → (is_whole k ≡ false → P (outcome k answer.WrongMemory)) →
-    (is_whole k ≡ true → leb n 1 ≡ false → P (outcome k answer.WrongPhase)) →
-    (is_whole k ≡ true → leb n 1 ≡ true → P (outcome (phased n k) (answer.Accepted 0))) → P (turned n k)
+    (P : Outcome → Type 0) (n : ℕ) (k : Chip) → (is_whole k ≡ false → P (outcome k (Err answer.WrongMemory))) →
+    (is_whole k ≡ true → leb n 1 ≡ false → P (outcome k (Err answer.WrongPhase))) →
+    (is_whole k ≡ true → leb n 1 ≡ true → P (outcome (phased n k) (Ok 0))) → P (turned n k)
 unfolding turned
 turn_known P n k wrongMemory wrongPhase accepted =
     pick_known P (is_whole k) _ _ (λ m. pick_known P (leb n 1) _ _ (accepted m) (wrongPhase m)) wrongMemory
 
 -- the ends of a step: refused, nothing runs, a command that does not move its bytes and ends, and a position of a move
 pub step_known :
-    (P : Outcome → Type 0) (k : Chip) → (is_whole k ≡ false → P (outcome k answer.WrongMemory)) →
-    (is_whole k ≡ true → k.processor.busy ≡ false → P (outcome k (answer.Accepted 0))) →
-    (is_whole k ≡ true → k.processor.busy ≡ true → P (outcome (moved (command_in k.processor) k) (answer.Accepted 0))) → P (stepped k)
+    (P : Outcome → Type 0) (k : Chip) → (is_whole k ≡ false → P (outcome k (Err answer.WrongMemory))) →
+    (is_whole k ≡ true → k.processor.busy ≡ false → P (outcome k (Ok 0))) →
+    (is_whole k ≡ true → k.processor.busy ≡ true → P (outcome (moved (command_in k.processor) k) (Ok 0))) → P (stepped k)
 unfolding stepped step_of
 step_known P k wrongMemory idle busy =
     pick_known P (is_whole k) _ _
     (λ m.
-    pick_known (λ (j : Chip). P (outcome j (answer.Accepted 0))) k.processor.busy (moved (command_in k.processor) k) k (busy m) (idle m)) wrongMemory
+    pick_known (λ (j : Chip). P (outcome j (Ok 0))) k.processor.busy (moved (command_in k.processor) k) k (busy m) (idle m)) wrongMemory
 
 -- the ends of a draw: refused, it answers the first number of its order and leaves what it found; accepted, it draws the page, and a draw
 -- gets neither 7 nor 8. (Each e is of the test whose number it has.)
 pub draw_known :
     (P : DrawOutcome → Type 0) (p : Processor) (m rom picture : List ℕ) →
-    ((a : Drawing) → first_of (draw_order p m rom picture) ≡ draw_number_of a → draw_number_of a ≢ 0 → P (draw_outcome p picture a)) →
+    ((a : Result ℕ DrawRefusal) → first_of (draw_order p m rom picture) ≡ draw_number_of a → draw_number_of a ≢ 0 → P (draw_outcome p picture a)) →
     (first_of (draw_order p m rom picture) ≡ 0 → is_shown p ≡ true → P (drawn_page p m rom picture)) → P (drawn p m rom picture)
 unfolding drawn can_draw
 draw_known P p m rom picture refused accepted =
@@ -146,38 +147,38 @@ draw_known P p m rom picture refused accepted =
     (λ e1.
     pick_known P (eqb (length rom) (rom_bytes p.part)) _ _
     (λ e5.
-    pick_known P (refused7 _) _ _ (λ e7. refused drawing.NotBuilt (rw (e1, e5, e7)) (λ z. omega arith))
+    pick_known P (refused7 _) _ _ (λ e7. refused (Err drawing.NotBuilt) (rw (e1, e5, e7)) (λ z. omega arith))
     (λ e7.
     pick_known P (eqb (length picture) (picture_bytes (column_bytes (shown_of p)))) _ _
     (λ e6.
-    pick_known P (refused8 _) _ _ (λ e8. refused drawing.LowOrigin (rw (e1, e5, e7, e6, e8)) (λ z. omega arith))
+    pick_known P (refused8 _) _ _ (λ e8. refused (Err drawing.LowOrigin) (rw (e1, e5, e7, e6, e8)) (λ z. omega arith))
     (λ e8. accepted (rw (e1, e5, e7, e6, e8)) (rw (e7, e8))))
-    (λ e6. refused drawing.WrongPicture (rw (e1, e5, e7, e6)) (λ z. omega arith))))
-    (λ e5. refused drawing.WrongRom (rw (e1, e5)) (λ z. omega arith)))
-    (λ e1. refused drawing.WrongMemory (rw e1) (λ z. omega arith))
+    (λ e6. refused (Err drawing.WrongPicture) (rw (e1, e5, e7, e6)) (λ z. omega arith))))
+    (λ e5. refused (Err drawing.WrongRom) (rw (e1, e5)) (λ z. omega arith)))
+    (λ e1. refused (Err drawing.WrongMemory) (rw e1) (λ z. omega arith))
 
 -- a NOP ends a move, and a move sets busy
-abbrev pub turns_busy : Command → Bool
-turns_busy Nop = true
-turns_busy (Ind r reads) = false
-turns_busy (Krf reads increments) = false
-turns_busy (Oct reads auxiliary increments) = false
-turns_busy (Krl reads increments) = false
-turns_busy (Move bytes auxiliary stops) = true
-turns_busy NotListed = false
+abbrev pub turns_busy : Option Command → Bool
+turns_busy (Some Nop) = true
+turns_busy (Some (Ind r reads)) = false
+turns_busy (Some (Krf reads increments)) = false
+turns_busy (Some (Oct reads auxiliary increments)) = false
+turns_busy (Some (Krl reads increments)) = false
+turns_busy (Some (Move bytes auxiliary stops)) = true
+turns_busy None = false
 
 -- K is kept by each part of an access. No store keeps "the memory is m", and no IND written "the marks are l"; such a property is kept as long
 -- as certain commands do not run. These are barred, and a store, an IND or a change of busy is asked about only where a command that is not barred does it.
-pub record KeptBy (barred : Command → Bool) (K : Chip → Type 0) : Type 0 where
+pub record KeptBy (barred : Option Command → Bool) (K : Chip → Type 0) : Type 0 where
   pub register : (k : Chip) (n v : ℕ) → K k → K (chip (with_register k.processor n v) k.memory)
   pub lx : (k : Chip) (m a : Bool) → K k → K (chip (with_lx k.processor m a) k.memory)
   pub store :
-      (c : Command) → is_store c ≡ true → barred c ≡ false → (t : Triple) → legal t ≡ true → (v : ℕ) (k : Chip) → K k → K (stored t v k)
-  pub ind : (r : ℕ) → barred (Ind r false) ≡ false → (k : Chip) → K k → K (chip (indirect_written k.processor r) k.memory)
-  pub busy : (c : Command) → turns_busy c ≡ true → barred c ≡ false → (k : Chip) (b : Bool) → K k → K (chip (with_busy k.processor b) k.memory)
+      (c : Option Command) → is_store c ≡ true → barred c ≡ false → (t : Triple) → legal t ≡ true → (v : ℕ) (k : Chip) → K k → K (stored t v k)
+  pub ind : (r : ℕ) → barred (Some (Ind r false)) ≡ false → (k : Chip) → K k → K (chip (indirect_written k.processor r) k.memory)
+  pub busy : (c : Option Command) → turns_busy c ≡ true → barred c ≡ false → (k : Chip) (b : Bool) → K k → K (chip (with_busy k.processor b) k.memory)
 
 -- and so by every command that is not barred, and by every access that executes none that is
-module _ (barred : Command → Bool) (K : Chip → Type 0) (by : KeptBy barred K) where
+module _ (barred : Option Command → Bool) (K : Chip → Type 0) (by : KeptBy barred K) where
   increment_keeps : (auxiliary : Bool) (k : Chip) → K k → K (chip (incremented auxiliary k.processor) k.memory)
   unfolding incremented
   increment_keeps true k h =
@@ -203,31 +204,31 @@ module _ (barred : Command → Bool) (K : Chip → Type 0) (by : KeptBy barred K
 
   -- a command that stores has a legal pointer, since it is not refused
   pub effect_keeps :
-      (c : Command) → barred c ≡ false → (k : Chip) → (is_store c ≡ true → is_astray c k.processor ≡ false) → K k → K (effect c k)
+      (c : Option Command) → barred c ≡ false → (k : Chip) → (is_store c ≡ true → is_astray c k.processor ≡ false) → K k → K (effect c k)
   unfolding indirect krf code_read code_stored oct krl narrow_read narrow_stored
-  effect_keeps Nop n k g h = by.busy Nop refl n k false h
-  effect_keeps (Ind r true) n k g h = by.register k 1 _ h
-  effect_keeps (Ind r false) n k g h = by.ind r n k h
-  effect_keeps (Krf true increments) n k g h =
+  effect_keeps (Some Nop) n k g h = by.busy (Some Nop) refl n k false h
+  effect_keeps (Some (Ind r true)) n k g h = by.register k 1 _ h
+  effect_keeps (Some (Ind r false)) n k g h = by.ind r n k h
+  effect_keeps (Some (Krf true increments)) n k g h =
       asked_keeps increments false _ (by.register _ 3 _ (by.register _ 2 _ (by.register _ 1 _ (by.lx k false false h))))
-  effect_keeps (Krf false increments) n k g h =
+  effect_keeps (Some (Krf false increments)) n k g h =
       let t = pointer_of false k.processor in
       let l = not-false (legal t) (sym (code_illegal k.processor.blocks t) ∙ g refl) in
-      let s = by.store (Krf false increments) refl n in
+      let s = by.store (Some (Krf false increments)) refl n in
       asked_keeps increments false _ (s _ l _ _ (s _ l _ _ (s _ l _ _ (by.lx k false false h))))
-  effect_keeps (Oct true auxiliary increments) n k g h = asked_keeps increments auxiliary _ (by.register _ 1 _ (by.lx k false false h))
-  effect_keeps (Oct false auxiliary increments) n k g h =
+  effect_keeps (Some (Oct true auxiliary increments)) n k g h = asked_keeps increments auxiliary _ (by.register _ 1 _ (by.lx k false false h))
+  effect_keeps (Some (Oct false auxiliary increments)) n k g h =
       let t = pointer_of auxiliary k.processor in
       let l = not-false (legal t) (sym (byte_illegal k.processor.blocks t) ∙ g refl) in
-      asked_keeps increments auxiliary _ (by.store (Oct false auxiliary increments) refl n t l _ _ (by.lx k false false h))
-  effect_keeps (Krl true increments) n k g h = advance_keeps increments _ (by.register _ 3 _ (by.register _ 1 _ (by.lx k false false h)))
-  effect_keeps (Krl false increments) n k g h =
+      asked_keeps increments auxiliary _ (by.store (Some (Oct false auxiliary increments)) refl n t l _ _ (by.lx k false false h))
+  effect_keeps (Some (Krl true increments)) n k g h = advance_keeps increments _ (by.register _ 3 _ (by.register _ 1 _ (by.lx k false false h)))
+  effect_keeps (Some (Krl false increments)) n k g h =
       let t = pointer_of false k.processor in
       let l = not-false (legal t) (sym (narrow_illegal k.processor.blocks t) ∙ g refl) in
-      let s = by.store (Krl false increments) refl n in
+      let s = by.store (Some (Krl false increments)) refl n in
       advance_keeps increments _ (s _ l _ _ (s t l _ _ (by.lx k false false h)))
-  effect_keeps (Move bytes auxiliary stops) n k g h = by.busy (Move bytes auxiliary stops) refl n _ true (by.lx k false false h)
-  effect_keeps NotListed n k g h = h
+  effect_keeps (Some (Move bytes auxiliary stops)) n k g h = by.busy (Some (Move bytes auxiliary stops)) refl n _ true (by.lx k false false h)
+  effect_keeps None n k g h = h
 
   -- an accepted access alone runs its command
   access_keeps :
@@ -278,16 +279,16 @@ module _
   passed_keeps stops k h = busy _ _ (onward_keeps stops k h)
 
   position_keeps :
-      (c : Command) → Asked c → (k : Chip) → is_astray c k.processor ≡ false → K k → K (position_of c k)
+      (c : Option Command) → IfSome c Asked → (k : Chip) → is_astray c k.processor ≡ false → K k → K (position_of c k)
   unfolding position_of position
-  position_keeps Nop q k g h = busy k false h
-  position_keeps (Ind r reads) q k g h = busy k false h
-  position_keeps (Krf reads increments) q k g h = busy k false h
-  position_keeps (Oct reads auxiliary increments) q k g h = busy k false h
-  position_keeps (Krl reads increments) q k g h = busy k false h
-  position_keeps (Move bytes auxiliary stops) q k g h =
+  position_keeps (Some Nop) q k g h = busy k false h
+  position_keeps (Some (Ind r reads)) q k g h = busy k false h
+  position_keeps (Some (Krf reads increments)) q k g h = busy k false h
+  position_keeps (Some (Oct reads auxiliary increments)) q k g h = busy k false h
+  position_keeps (Some (Krl reads increments)) q k g h = busy k false h
+  position_keeps (Some (Move bytes auxiliary stops)) q k g h =
       passed_keeps stops _ (carried_keeps bytes _ _ (move_pointer bytes auxiliary stops k.processor g q.0 (not auxiliary)) k h)
-  position_keeps NotListed q k g h = busy k false h
+  position_keeps None q k g h = busy k false h
 
   pub moved_keeps : (k : Chip) → K k → K (moved (command_in k.processor) k)
   unfolding moved
@@ -309,5 +310,5 @@ pub run_known :
 run_known W hands [] w h = h
 run_known W hands (o ∷ os) w h = run_known W hands os (step o w) (hands o os w h)
 
-abbrev pub none_barred : Command → Bool
+abbrev pub none_barred : Option Command → Bool
 none_barred c = false

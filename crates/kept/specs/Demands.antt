@@ -3,7 +3,7 @@
 -- Operations, what they are lent, and runs are in Runs; the refusals and their order in Orders; the premises of demand 3 in Premises; what
 -- stores in Quiet; what marks in Rules.
 -- Assumes nothing.
-use Rattle.std.specs.Prelude.{ℕ, ◌+◌, ◌*◌, ◌<◌, ◌≤◌, ◌≡◌, Bool, true, false, not, ◌&&◌, ◌||◌, List, [], ◌∷◌, ◌++◌, ◌≢◌, length, replicate}
+use Rattle.std.specs.Prelude.{ℕ, ◌+◌, ◌*◌, ◌<◌, ◌≤◌, ◌≡◌, Bool, true, false, not, ◌&&◌, ◌||◌, List, [], ◌∷◌, ◌++◌, ◌≢◌, length, replicate, Option, Some, None}
 use Rattle.basics.specs.Choice.{pick, one_if}
 use Rattle.address.specs.Addresses.{byte_addresses, code_addresses, narrow_addresses, all_fitted}
 use Rattle.board.specs.Boards.{is_part, part_named, is_board, bytes_of}
@@ -21,7 +21,7 @@ use Rattle.picture.specs.Redraws.{fresh}
 use Rattle.reading.specs.Lists.{on_list}
 use Rattle.command.specs.Answers.{power_number_of}
 use Rattle.command.specs.declared.Command.{Command}
-use Rattle.command.specs.declared.Command.TheVariants.{Nop, Ind, Krf, Oct, Krl, Move, NotListed}
+use Rattle.command.specs.declared.Command.TheVariants.{Nop, Ind, Krf, Oct, Krl, Move}
 use Rattle.command.specs.Commands.{command_for}
 use Rattle.processor.specs.declared.draw.Drawn.{Drawn}
 use Rattle.processor.specs.declared.execute.Answered.{Answered}
@@ -199,8 +199,8 @@ CodeKept =
     (part : Part) (blocks : ℕ) (m rom picture : List ℕ) (before between : List Operation) (o q : Operation) (i j : Bool) →
     let w = run before (first part blocks m rom picture) in
     let u = run between (step o w) in
-    memory_lent o ≡ own → command_run o w ≡ Krf false i → Quiet between (step o w) →
-    memory_lent q ≡ own → command_run q u ≡ Krf true j → pointer_of false (registered q u) ≡ pointer_of false (registered o w) →
+    memory_lent o ≡ own → command_run o w ≡ Some (Krf false i) → Quiet between (step o w) →
+    memory_lent q ≡ own → command_run q u ≡ Some (Krf true j) → pointer_of false (registered q u) ≡ pointer_of false (registered o w) →
     (n : ℕ) → 1 ≤ n → n ≤ 3 → register_of (step q u).processor n ≡ register_of (registered o w) n
 
 abbrev pub ByteKept : Type 0
@@ -208,8 +208,8 @@ ByteKept =
     (part : Part) (blocks : ℕ) (m rom picture : List ℕ) (before between : List Operation) (o q : Operation) (x y i j : Bool) →
     let w = run before (first part blocks m rom picture) in
     let u = run between (step o w) in
-    memory_lent o ≡ own → command_run o w ≡ Oct false x i → Quiet between (step o w) →
-    memory_lent q ≡ own → command_run q u ≡ Oct true y j → pointer_of y (registered q u) ≡ pointer_of x (registered o w) →
+    memory_lent o ≡ own → command_run o w ≡ Some (Oct false x i) → Quiet between (step o w) →
+    memory_lent q ≡ own → command_run q u ≡ Some (Oct true y j) → pointer_of y (registered q u) ≡ pointer_of x (registered o w) →
     register_of (step q u).processor 1 ≡ register_of (registered o w) 1
 
 abbrev pub NarrowKept : Type 0
@@ -218,8 +218,8 @@ NarrowKept =
     let w = run before (first part blocks m rom picture) in
     let u = run between (step o w) in
     let t = pointer_of false (registered o w) in
-    memory_lent o ≡ own → command_run o w ≡ Krl false i → Quiet between (step o w) →
-    memory_lent q ≡ own → command_run q u ≡ Krl true j → pointer_of false (registered q u) ≡ t →
+    memory_lent o ≡ own → command_run o w ≡ Some (Krl false i) → Quiet between (step o w) →
+    memory_lent q ≡ own → command_run q u ≡ Some (Krl true j) → pointer_of false (registered q u) ≡ t →
     (register_of (step q u).processor 1 ≡ register_of (registered o w) 1)
     × (register_of (step q u).processor 3 ≡ both_halves (nibble_for (is_odd t) (register_of (registered o w) 3)))
 
@@ -228,7 +228,7 @@ abbrev pub NeighbourKept : Type 0
 NeighbourKept =
     (o : Operation) (w : World) (i : Bool) →
     let t = pointer_of false (registered o w) in
-    memory_lent o ≡ own → command_run o w ≡ Krl false i →
+    memory_lent o ≡ own → command_run o w ≡ Some (Krl false i) →
     (loaded (neighbour_at t) (step o w).memory ≡ loaded (neighbour_at t) w.memory)
     × (nibble_for (is_odd (neighbour_at t)) (loaded (attributes_at t) (step o w).memory)
     ≡ nibble_for (is_odd (neighbour_at t)) (loaded (attributes_at t) w.memory))
@@ -252,13 +252,13 @@ most_steps = 40
 abbrev pub MoveEnds : Type 0
 MoveEnds =
     (o : Operation) (w : World) (bytes : ℕ) (auxiliary : Bool) → Sized w.processor → memory_lent o ≡ own →
-    command_run o w ≡ Move bytes auxiliary true → Idle (run (replicate most_steps (move own)) (step o w))
+    command_run o w ≡ Some (Move bytes auxiliary true) → Idle (run (replicate most_steps (move own)) (step o w))
 
 -- one without runs on, however many steps there are
 abbrev pub MoveGoesOn : Type 0
 MoveGoesOn =
     (o : Operation) (w : World) (bytes : ℕ) (auxiliary : Bool) (n : ℕ) → Sized w.processor → memory_lent o ≡ own →
-    command_run o w ≡ Move bytes auxiliary false → (run (replicate n (move own)) (step o w)).processor.busy ≡ true
+    command_run o w ≡ Some (Move bytes auxiliary false) → (run (replicate n (move own)) (step o w)).processor.busy ≡ true
 
 -- until a NOP, 90 or 91, is executed
 abbrev pub NopEnds : Type 0
@@ -267,14 +267,14 @@ NopEnds =
     (reply_to (execute v) w ≡ reply 0 0) × Idle (step (execute v) w)
 
 -- what runs is a move
-abbrev pub is_move : Command → Bool
-is_move Nop = false
-is_move (Ind r reads) = false
-is_move (Krf reads increments) = false
-is_move (Oct reads auxiliary increments) = false
-is_move (Krl reads increments) = false
-is_move (Move bytes auxiliary stops) = true
-is_move NotListed = false
+abbrev pub is_move : Option Command → Bool
+is_move (Some Nop) = false
+is_move (Some (Ind r reads)) = false
+is_move (Some (Krf reads increments)) = false
+is_move (Some (Oct reads auxiliary increments)) = false
+is_move (Some (Krl reads increments)) = false
+is_move (Some (Move bytes auxiliary stops)) = true
+is_move None = false
 
 -- and it has legal, fitted pointers, from its start until it ends, over every run from power-up
 abbrev pub MoveFitted : Type 0

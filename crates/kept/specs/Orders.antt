@@ -1,6 +1,6 @@
 -- The order of the refusals, as the rules list it, and what each operation returns.
 -- Assumes nothing.
-use Rattle.std.specs.Prelude.{ℕ, Bool, not, ◌&&◌, ◌||◌, List, [], ◌∷◌, eqb, leb, length}
+use Rattle.std.specs.Prelude.{ℕ, Bool, not, ◌&&◌, ◌||◌, List, [], ◌∷◌, eqb, leb, length, is_none}
 use Rattle.basics.specs.Bits.{bits, is_set}
 use Rattle.basics.specs.Choice.{pick}
 use Rattle.board.specs.Boards.{bytes_of}
@@ -12,7 +12,7 @@ use Rattle.command.specs.Commands.{command_for}
 use Rattle.command.specs.Held.{is_read_held, is_write_held}
 use Rattle.page.specs.Marks.{marked_rows}
 use Rattle.processor.specs.States.{register_of, register_read, shown_of}
-use Rattle.processor.specs.Access.{is_unlisted, is_astray, is_unfitted}
+use Rattle.processor.specs.Access.{is_astray, is_unfitted}
 use Rattle.kept.specs.Runs.{Operation, write, read, turn, move, draw, World, lent_of, registered}
 
 -- a condition and the number that it gives
@@ -34,7 +34,7 @@ access_order address held p m =
     gives (not (eqb (length m) (bytes_of p.blocks))) 1
     ∷ gives (not (eqb (bits 4 4 address) 2)) 2
     ∷ gives (p.busy && held) 10
-    ∷ gives (is_set 3 address && is_unlisted (command_for p.part (register_of p 0))) 3
+    ∷ gives (is_set 3 address && is_none (command_for p.part (register_of p 0))) 3
     ∷ gives (is_set 3 address && is_astray (command_for p.part (register_of p 0)) p) 4
     ∷ gives (is_set 3 address && is_unfitted (command_for p.part (register_of p 0)) p) 11
     ∷ []

@@ -1,6 +1,6 @@
 -- What marks row r, operation by operation, in the words of the rules.
 -- Assumes nothing.
-use Rattle.std.specs.Prelude.{ℕ, zero, suc, Bool, true, false, not, ◌&&◌, ◌||◌, eqb, leb, get_or}
+use Rattle.std.specs.Prelude.{ℕ, zero, suc, Bool, true, false, not, ◌&&◌, ◌||◌, eqb, leb, get_or, Option, Some, None}
 use Rattle.basics.specs.Bits.{bits, is_set}
 use Rattle.address.specs.Addresses.{byte_addresses, code_addresses, narrow_addresses, all_fitted}
 use Rattle.address.specs.Narrow.{is_odd, attributes_at, nibble_into}
@@ -11,7 +11,7 @@ use Rattle.shown.specs.Modes.{is_eighty}
 use Rattle.shown.specs.Refusals.{can_draw}
 use Rattle.reading.specs.Marks.{flash_in}
 use Rattle.command.specs.declared.Command.{Command}
-use Rattle.command.specs.declared.Command.TheVariants.{Nop, Ind, Krf, Oct, Krl, Move, NotListed}
+use Rattle.command.specs.declared.Command.TheVariants.{Nop, Ind, Krf, Oct, Krl, Move}
 use Rattle.processor.specs.declared.state.Processor.{Processor}
 use Rattle.command.specs.Commands.{command_for}
 use Rattle.command.specs.Held.{is_read_held, is_write_held}
@@ -57,24 +57,24 @@ narrow_rule t k r =
     || store_rule (attributes_at t) (nibble_into (is_odd t) (loaded (attributes_at t) k.memory) (register_of p 3)) k1 r
 
 -- a command: those that store mark by their stores, where their pointer is legal and all its bytes are fitted
-abbrev pub command_rule : Command → Chip → ℕ → Bool
-command_rule Nop k r = false
-command_rule (Ind n true) k r = false
-command_rule (Ind n false) k r = indirect_rule n k.processor
-command_rule (Krf true increments) k r = false
-command_rule (Krf false increments) k r =
+abbrev pub command_rule : Option Command → Chip → ℕ → Bool
+command_rule (Some Nop) k r = false
+command_rule (Some (Ind n true)) k r = false
+command_rule (Some (Ind n false)) k r = indirect_rule n k.processor
+command_rule (Some (Krf true increments)) k r = false
+command_rule (Some (Krf false increments)) k r =
     all_fitted (code_addresses k.processor.blocks (pointer_of false k.processor))
     && code_rule (pointer_of false k.processor) (chip (cleared k.processor) k.memory) r
-command_rule (Oct true auxiliary increments) k r = false
-command_rule (Oct false auxiliary increments) k r =
+command_rule (Some (Oct true auxiliary increments)) k r = false
+command_rule (Some (Oct false auxiliary increments)) k r =
     all_fitted (byte_addresses k.processor.blocks (pointer_of auxiliary k.processor))
     && store_rule (pointer_of auxiliary k.processor) (register_of k.processor 1) (chip (cleared k.processor) k.memory) r
-command_rule (Krl true increments) k r = false
-command_rule (Krl false increments) k r =
+command_rule (Some (Krl true increments)) k r = false
+command_rule (Some (Krl false increments)) k r =
     all_fitted (narrow_addresses k.processor.blocks (pointer_of false k.processor))
     && narrow_rule (pointer_of false k.processor) (chip (cleared k.processor) k.memory) r
-command_rule (Move bytes auxiliary stops) k r = false
-command_rule NotListed k r = false
+command_rule (Some (Move bytes auxiliary stops)) k r = false
+command_rule None k r = false
 
 -- an access that is not refused with 1, 2 or 10, and executes; k is what the register access left, held are the accesses that 10 refuses while busy
 abbrev pub access_rule : ℕ → Bool → Chip → ℕ → Bool
@@ -92,16 +92,16 @@ carry_rule (suc n) from to k r =
     carry_rule n from to k r || store_rule (block_at to n) (loaded (block_at from n) j.memory) j r
 
 -- by the command that runs: a move, where its pointers are legal and all its bytes are fitted
-abbrev pub move_rule : Command → Chip → ℕ → Bool
-move_rule Nop k r = false
-move_rule (Ind n reads) k r = false
-move_rule (Krf reads increments) k r = false
-move_rule (Oct reads auxiliary increments) k r = false
-move_rule (Krl reads increments) k r = false
-move_rule (Move bytes auxiliary stops) k r =
-    all_fitted (addresses_of (Move bytes auxiliary stops) k.processor)
+abbrev pub move_rule : Option Command → Chip → ℕ → Bool
+move_rule (Some Nop) k r = false
+move_rule (Some (Ind n reads)) k r = false
+move_rule (Some (Krf reads increments)) k r = false
+move_rule (Some (Oct reads auxiliary increments)) k r = false
+move_rule (Some (Krl reads increments)) k r = false
+move_rule (Some (Move bytes auxiliary stops)) k r =
+    all_fitted (addresses_of (Some (Move bytes auxiliary stops)) k.processor)
     && carry_rule bytes (pointer_of auxiliary k.processor) (pointer_of (not auxiliary) k.processor) k r
-move_rule NotListed k r = false
+move_rule None k r = false
 
 abbrev pub marks_row : Operation → World → ℕ → Bool
 marks_row (write x address v) w r = access_rule address (is_write_held address v) (chip (registered (write x address v) w) (lent_of x w.memory)) r

@@ -7,8 +7,8 @@ use mathlib.Core.List.{List}
 use mathlib.Core.Logic.{◌≢◌, ⊎_elim}
 use native.Mathlib.Omega.{arith}
 use lib.Dec.{ltb}
-use lib.ListN.{set, take}
-use lib.Seq.{get_or-set_other, set-set}
+use lib.ListN.{length, set, take}
+use lib.Seq.{get_or-set_same, get_or-set_other, set-set}
 use borrow.Author.Tests.{not-false, lt-ltb}
 use Rattle.basics.specs.Below.{any_below}
 use Rattle.basics.proofs.Choice.{or_none, or_neither, eq_or_ne}
@@ -17,7 +17,8 @@ use Rattle.address.specs.Places.{place_at, block_at, loaded}
 use Rattle.address.specs.Triples.{legal, legal_in}
 use Rattle.address.specs.declared.triple.Triple.{Triple}
 use Rattle.address.proofs.Laws.{page_column}
-use Rattle.std.specs.Prelude.{Some}
+use Rattle.std.specs.Prelude.{Some, None}
+use Rattle.command.specs.Commands.{command_for}
 use Rattle.command.specs.declared.Command.TheVariants.{Move}
 use Rattle.moves.specs.Onward.{BothOnPage}
 use Rattle.moves.specs.Spans.{span_addresses, is_bare_in}
@@ -30,8 +31,13 @@ use Rattle.processor.specs.Pointers.{pointer_of}
 use Rattle.processor.specs.Bytes.{stored}
 use Rattle.processor.specs.Access.{is_astray, is_unfitted, idle}
 use Rattle.processor.specs.HowCarried.{stored_all, last_of}
-use Rattle.processor.specs.Moves.{carried, carried_all, position, passed_on, position_of, moved}
+use Rattle.processor.specs.Moves.{carried, carried_all, position, passed_on, position_of, moved, step_of}
 use Rattle.processor.proofs.Laws.{auxiliary_x_lem, main_x_lem}
+
+-- what a read gives once a value is stored there
+pub load_stored :
+    (m : List ℕ) (at : Triple) (here p v : ℕ) → here ≡ place_at at → here ≡ p → p < length m → v ≡ loaded at (set m p v)
+load_stored m at here p v e s l = sym (rw (← e, s) (get_or-set_same m p v 0 l))
 
 -- what is left after one, two and three bytes: k is the chip before, and v is what R1 holds at the end
 module _ (from to : Triple) (k : Chip) (shown : Shown) (after : List Bool) (i0 i1 i2 c b a : ℕ) where
@@ -144,6 +150,15 @@ unfolding position
 position_done bytes auxiliary stops k from to next r after ef et en er =
     ap (λ (q : Processor). chip q after) er
     ∙ ap (λ (j : Chip). chip (passed_on stops j.processor) j.memory) (en ∙ rw (ef, et))
+
+-- a step while something runs is one position of it, and what is not listed ends
+pub step_once : (k : Chip) → k.processor.busy ≡ true → moved (command_for k.processor.part (register_of k.processor 0)) k ≡ step_of k
+unfolding step_of
+step_once k busy = rw busy refl
+
+pub unlisted_ends : (k : Chip) → position_of None k ≡ idle k
+unfolding position_of
+unlisted_ends k = refl
 
 -- 4 of a move: either pointer is illegal
 pub either_astray :

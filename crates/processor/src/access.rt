@@ -14,6 +14,13 @@ use command::answer::Refusal;
 use command::held::{is_read_held, is_write_held};
 use phases::phase::phase_marks;
 
+// The high four bits of the address are 2.
+fn is_chosen(address: u8) -> bool
+    ensures { result ≡ eqb (bits 4 4 address) 2 }
+{
+    address / 16 == 2
+}
+
 impl Processor {
     // 1, 2 and 10, in this order, before an access takes place; held where a move runs and 10 refuses it.
     fn admits(self, memory: usize, address: u8, held: bool) -> Result<(), Refusal>
@@ -22,7 +29,7 @@ impl Processor {
         if memory != bytes_of(self.blocks) {
             return Err(Refusal::WrongMemory);
         }
-        if address / 16 != 2 {
+        if !is_chosen(address) {
             return Err(Refusal::WrongAddress);
         }
         if held {
@@ -50,7 +57,10 @@ impl Processor {
     {
         let held = is_read_held(self.busy, address);
         match self.admits(memory.len(), address, held) {
-            Ok(()) => execute(self, memory, address, self.register(address)),
+            Ok(()) => {
+                let value = self.register(address);
+                execute(self, memory, address, value)
+            }
             Err(refusal) => self.answering(Err(refusal)),
         }
     }

@@ -38,10 +38,7 @@ fn redrawn(p: Processor, memory: &[u8], rom: &[u8], picture: &mut [u8]) -> Drawi
     if rom.len() != shown.rom_asked() {
         return Err(DrawRefusal::WrongRom);
     }
-    let asked = shown.picture_asked();
-    if asked == 0 {
-        return Err(DrawRefusal::NotBuilt);
-    }
+    let asked = shown.picture_asked().ok_or(DrawRefusal::NotBuilt)?;
     if picture.len() != asked {
         return Err(DrawRefusal::WrongPicture);
     }

@@ -15,3 +15,6 @@ pub krl-requires : goal.krl-requires
 krl-requires c = let g = c.in-Krl.is in
     let l = narrow_legal _ _ (rw g at c.requires.2) (rw g at c.requires.3) in
     (c.requires.0, l.0, l.1)
+
+pub returns-in-Move : goal.returns-in-Move
+returns-in-Move c = rw (c.in-Move.is, c.with_busy-in-Move.ensures, c.cleared.ensures)
