@@ -40,19 +40,22 @@ impl Processor {
 
     // A register is written; then the command runs, if the address asks for it. While a move runs, only a NOP is.
     #[tactic(auto, unfolding(crate::specs::Access::written, crate::specs::Access::checked))]
-    pub fn write(self, memory: &mut [u8], address: u8, value: u8) -> Answered
+    pub fn write(mut self, memory: &mut [u8], address: u8, value: u8) -> Answered
         ensures { outcome_of result memory.new ≡ written address value (chip self memory.old) }
     {
         let held = is_write_held(self.busy, address, value);
         match self.admits(memory.len(), address, held) {
-            Ok(()) => execute(self.with_register(address, value), memory, address, 0),
+            Ok(()) => {
+                self = self.with_register(address, value);
+                execute(self, memory, address, 0)
+            }
             Err(refusal) => self.answering(Err(refusal)),
         }
     }
 
     // A register is read; then the command runs, if the address asks for it, and may store. While a move runs, only the status is read.
     #[tactic(auto, unfolding(crate::specs::Access::read_out, crate::specs::Access::checked))]
-    pub fn read(self, memory: &mut [u8], address: u8) -> Answered
+    pub fn read(mut self, memory: &mut [u8], address: u8) -> Answered
         ensures { outcome_of result memory.new ≡ read_out address (chip self memory.old) }
     {
         let held = is_read_held(self.busy, address);
