@@ -2,14 +2,15 @@
 -- Assumes nothing.
 use Prim.Native.Nat.{ℕ, zero, suc, ◌+◌, ◌<◌, ◌≤◌}
 use mathlib.Core.Path.{◌≡◌, refl, sym, ap, subst, ◌∙◌}
-use mathlib.Core.List.{List}
+use mathlib.Core.List.{List, [], ◌∷◌, ◌++◌, append_assoc, append-nil}
 use native.Mathlib.Omega.{arith}
 use denote.Param.Members.{Mut}
-use lib.ListN.{length, get_or, take, drop, length-drop}
-use lib.Seq.{length-take-le, get_or-take, get_or-drop, ext_get_or}
+use lib.ListN.{length, get_or, take, drop, length-drop, drop_of_length-le}
+use lib.Seq.{take_at, drop_at, length-take-le, get_or-take, get_or-drop, ext_get_or}
+use borrow.Rule.Slice.PartMut.{put_mid}
 use Rattle.std.specs.Fn.{Called}
 use Rattle.std.specs.Array.{IsFromFnResult, IsFromFnResultFrom}
-use Rattle.basics.specs.Parts.{table}
+use Rattle.basics.specs.Parts.{joined, table}
 use Rattle.basics.proofs.Parts.{length_table, table_at}
 
 module _ {F A : Type 0} (g : Mut F (ℕ × Unit {0}) A) (f : ℕ → A) (s : F) where
@@ -51,3 +52,26 @@ module _ {A : Type 0} where
       ap (λ (z : List A). get_or z k d) e ∙ get_or-take w (drop first xs) k d (omega (arith, below, long)) ∙ get_or-drop first xs k d
       ∙ same k below
       ∙ sym (table_at f n k d below))
+
+  table_split : (f : ℕ → A) (a b : ℕ) → table f (a + b) ≡ table f a ++ table (λ i. f (a + i)) b
+  unfolding joined
+  table_split f a zero = let e : a + 0 ≡ a = omega arith in ap (table f) e ∙ sym (append-nil (table f a))
+  table_split f a (suc b) =
+      let e : a + suc b ≡ suc (a + b) = omega arith in
+      ap (table f) e
+      ∙ ap (λ (z : List A). z ++ (f (a + b) ∷ [])) (table_split f a b)
+      ∙ append_assoc (table f a) (table (λ i. f (a + i)) b) (f (a + b) ∷ [])
+
+  -- two copies, one after the other: the second takes the place of what stood after the first
+  pub table_two :
+      (f : ℕ → A) (front rest last : List A) (a b : ℕ)
+      → front ≡ table f a → last ≡ table (λ i. f (a + i)) b → length rest ≡ b → put_mid a b (front ++ rest) last ≡ table f (a + b)
+  table_two f front rest last a b p q h =
+      let long : length front ≡ a = ap length p ∙ length_table f a in
+      ap (λ (z : List A). z ++ (last ++ drop b (drop a (front ++ rest)))) (take_at front rest a long)
+      ∙ ap (λ (z : List A). front ++ (last ++ drop b z)) (drop_at front rest a long)
+      ∙ ap (λ (z : List A). front ++ (last ++ z)) (drop_of_length-le rest {i = b} (omega arith))
+      ∙ ap (λ (z : List A). front ++ z) (append-nil last)
+      ∙ ap (λ (z : List A). z ++ last) p
+      ∙ ap (λ (z : List A). table f a ++ z) q
+      ∙ sym (table_split f a b)

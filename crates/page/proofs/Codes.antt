@@ -1,65 +1,83 @@
 -- Laws of a row's code bytes: where they are in memory, and that those which are not fitted are 0 as memory has them.
 -- Assumes nothing.
 use Prim.Native.Nat.{ℕ, ◌+◌, ◌*◌, ◌-◌, ◌<◌, ◌≤◌}
-use mathlib.Core.Path.{◌≡◌, sym, ◌∙◌}
+use mathlib.Core.Path.{◌≡◌, sym, ap, ◌∙◌}
 use mathlib.Core.Bool.{true, false}
-use mathlib.Core.List.{List, [], ◌∷◌}
+use mathlib.Core.List.{List, [], ◌∷◌, ◌++◌}
 use mathlib.Core.Logic.{⊎_elim}
 use native.Mathlib.Omega.{arith}
-use lib.Dec.{ltb}
-use lib.ListN.{length, get_or-eq_default}
-use borrow.Author.Tests.{lt-ltb, le-ltb, ltb-true, ltb-false}
-use Rattle.basics.specs.Choice.{pick}
-use Rattle.basics.proofs.Choice.{lt_or_le, eq_or_ne}
+use lib.ListN.{length, get_or, get_or-eq_default, take, drop}
+use borrow.Author.Tests.{lt-ltb, ltb-true, ltb-false}
+use Rattle.basics.proofs.Choice.{eq_or_ne}
 use Rattle.basics.specs.Parts.{table}
-use Rattle.basics.proofs.Parts.{table_same}
+use Rattle.basics.proofs.Parts.{table_at, table_same}
+use Rattle.basics.proofs.Made.{table_copied, table_two}
+use borrow.Rule.Slice.PartMut.{put_mid}
 use Rattle.address.specs.Addresses.{byte_from}
 use Rattle.board.specs.Boards.{bytes_of}
 use Rattle.address.specs.Places.{place_of, block_of, byte_at}
 use Rattle.address.specs.Triples.{on_page}
 use Rattle.address.proofs.Addresses.{byte_kept}
 use Rattle.address.proofs.Laws.{place_left, place_service, place_right, facts_page, row_facts}
-use Rattle.address.proofs.Places.{place_fits, place_block, place_within}
+use Rattle.address.proofs.Places.{place_block, place_within}
 use Rattle.address.specs.Rows.{row_y}
 use Rattle.shown.specs.declared.Shown.{Shown}
 use Rattle.shown.specs.Origins.{yor_of, first_block}
 use Rattle.page.specs.Codes.{code_address, code_at, row_buffer}
 use Rattle.page.specs.HowCodes.{code_of, is_fitted, Has}
 
--- where the code finds column x: from the starts of the left columns and of the right ones in block 0
-module _ (y left right x at : ℕ) (el : left ≡ place_of 0 y 0) (er : right ≡ place_of 32 y 0) (column : x < 40) (e : at ≡ pick (ltb x 32) (left + x) (right + (x - 32))) where
-  column_place : at ≡ place_of x y 0
-  column_place =
-      ⊎_elim
-      (λ l. e ∙ rw (lt-ltb x 32 l) (omega (arith, el, place_left 0 y 0 (omega arith), place_left x y 0 l)))
-      (λ l.
-      e
-      ∙ rw (le-ltb x 32 l)
-      (⊎_elim
-      (λ q. omega (arith, er, place_service 32 y 0 (omega arith) q, place_service x y 0 l q))
-      (λ q. omega (arith, er, place_right 32 y 0 (omega arith) q, place_right x y 0 l q))
-      (eq_or_ne y 0)))
-      (lt_or_le x 32)
+-- the forty bytes at Y of a block stand in two stretches
+module _ (m : List ℕ) (blocks z y : ℕ) (whole : length m ≡ bytes_of blocks) (low : y < 32) where
+  abbrev row_byte : ℕ → ℕ
+  row_byte x = byte_at m (place_of x y z)
 
-  -- byte k of its code
-  byte_place : (z k start : ℕ) → start ≡ 1024 * block_of z k → start + at ≡ place_of x y (block_of z k)
-  byte_place z k start es = omega (arith, es, column_place, place_within x y (block_of z k))
+  -- of a block that is fitted both are in memory
+  module _ (fitted : z < blocks) where
+    pub left_fits : (left : ℕ) → left ≡ place_of 0 y z → left + 32 ≤ length m
+    left_fits left e = omega (arith, place_left 0 y z (omega arith))
 
-  -- is in memory, where memory has its block
-  pub byte_fits : (m : List ℕ) (z k start : ℕ) → start ≡ 1024 * block_of z k → y < 32 → Has m z k → start + at < length m
-  byte_fits m z k start es hy hz = omega (arith, byte_place z k start es, place_fits (block_of z k + 1) x y (block_of z k) column hy (omega arith))
+    pub right_fits : (right : ℕ) → right ≡ place_of 32 y z → right + 8 ≤ length m
+    right_fits right e =
+        ⊎_elim (λ q. omega (arith, place_service 32 y z (omega arith) q)) (λ q. omega (arith, place_right 32 y z (omega arith) q)) (eq_or_ne y 0)
 
-  -- the three bytes
-  pub code_listed :
-      (m : List ℕ) (z c b a : ℕ)
-      → c ≡ 1024 * block_of z 0 → b ≡ 1024 * block_of z 1 → a ≡ 1024 * block_of z 2
-      → ◌≡◌ {A = List ℕ} (byte_at m (c + at) ∷ byte_at m (b + at) ∷ byte_at m (a + at) ∷ []) (code_of m z y x)
-  unfolding code_of
-  code_listed m z c b a ec eb ea = rw (byte_place z 0 c ec, byte_place z 1 b eb, byte_place z 2 a ea)
+    left_place : (left x : ℕ) → left ≡ place_of 0 y z → x < 32 → left + x ≡ place_of x y z
+    left_place left x e l = omega (arith, place_left 0 y z (omega arith), place_left x y z l)
 
--- a column of a row is in the first block
-pub start_small : (x y p : ℕ) → p ≡ place_of x y 0 → x < 40 → y < 32 → p < 65536
-start_small x y p e hx hy = omega (arith, e, place_fits 1 x y 0 hx hy (omega arith))
+    right_place : (right x : ℕ) → right ≡ place_of 32 y z → right + x ≡ place_of (32 + x) y z
+    right_place right x e =
+        ⊎_elim
+        (λ q. omega (arith, place_service 32 y z (omega arith) q, place_service (32 + x) y z (omega arith) q))
+        (λ q. omega (arith, place_right 32 y z (omega arith) q, place_right (32 + x) y z (omega arith) q))
+        (eq_or_ne y 0)
+
+    -- copied one after the other, they are the row's bytes
+    pub row_bytes :
+        (left right : ℕ) → left ≡ place_of 0 y z → right ≡ place_of 32 y z → (front rest last : List ℕ) → front ≡ take (left + 32 - left) (drop left m)
+        → last ≡ take (right + 8 - right) (drop right m) → length rest ≡ 8 → put_mid 32 8 (front ++ rest) last ≡ table row_byte 40
+    row_bytes left right el er front rest last p q h =
+        table_two row_byte front rest last 32 8
+        (table_copied row_byte m front left _ 32 0 p (omega arith) (left_fits left el) (λ x l. ap (byte_at m) (left_place left x el l)))
+        (table_copied (λ i. row_byte (32 + i)) m last right _ 8 0 q (omega arith) (right_fits right er) (λ x l. ap (byte_at m) (right_place right x er)))
+        h
+
+  -- of another they are past the end of memory
+  pub row_bare : blocks ≤ z → table (λ x. 0) 40 ≡ table row_byte 40
+  row_bare past = table_same _ _ 40 (λ x l. sym (get_or-eq_default m 0 (omega (arith, place_within x y z))))
+
+-- a cell's code, from the forty bytes of each block
+pub code_listed :
+    (m : List ℕ) (z y x zc zb za : ℕ) (c b a : List ℕ)
+    → zc ≡ block_of z 0 → zb ≡ block_of z 1 → za ≡ block_of z 2
+    → c ≡ table (λ i. byte_at m (place_of i y zc)) 40 → b ≡ table (λ i. byte_at m (place_of i y zb)) 40 → a ≡ table (λ i. byte_at m (place_of i y za)) 40
+    → x < 40 → ◌≡◌ {A = List ℕ} (get_or c x 0 ∷ get_or b x 0 ∷ get_or a x 0 ∷ []) (code_of m z y x)
+unfolding code_of
+code_listed m z y x zc zb za c b a ec eb ea pc pb pa l = rw (at zc c pc ∙ byte zc 0 ec, at zb b pb ∙ byte zb 1 eb, at za a pa ∙ byte za 2 ea)
+  where
+    at : (k : ℕ) (bytes : List ℕ) → bytes ≡ table (λ i. byte_at m (place_of i y k)) 40 → get_or bytes x 0 ≡ byte_at m (place_of x y k)
+    at k bytes e = ap (λ (s : List ℕ). get_or s x 0) e ∙ table_at (λ i. byte_at m (place_of i y k)) 40 x 0 l
+
+    byte : (k i : ℕ) → k ≡ block_of z i → byte_at m (place_of x y k) ≡ byte_at m (place_of x y (block_of z i))
+    byte k i e = ap (λ (j : ℕ). byte_at m (place_of x y j)) e
 
 -- a byte past the end of memory
 pub bare_byte : (m : List ℕ) (z y x k : ℕ) → on_page x y ≡ true → length m ≤ 1024 * block_of z k → byte_at m (place_of x y (block_of z k)) ≡ 0
