@@ -1,25 +1,27 @@
 -- Laws of halves.
 -- Assumes nothing.
-use Prim.Native.Nat.{ℕ, zero, suc, ◌-◌, ◌*◌, ◌<◌, ◌≤◌}
-use mathlib.Core.Path.{◌≡◌, refl, sym, ap, ◌∙◌}
-use mathlib.Core.Bool.{Bool, true, false, not, ◌&&◌}
-use mathlib.Core.List.{List, []}
+use Prim.Native.Nat.{ℕ, zero, suc, ◌+◌, ◌-◌, ◌*◌, ◌%◌, ◌<◌, ◌≤◌}
+use mathlib.Core.Path.{◌≡◌, refl, sym, ap, ap₂, ◌∙◌}
+use mathlib.Core.Bool.{Bool, true, false, not, ◌&&◌, and-true}
+use mathlib.Core.List.{List, [], ◌∷◌, ◌++◌, append_assoc, append-nil}
 use mathlib.Core.Logic.{◌⊎◌, inl, inr, ⊎_elim}
 use native.Mathlib.Omega.{arith}
 use lib.Dec.{eqb}
-use lib.ListN.{length, get_or, take}
-use borrow.Author.Tests.{eq-eqb}
+use lib.ListN.{length, get_or, take, drop, drop_of_length-le}
+use lib.Seq.{take_at, drop_at, drop-drop, take-suc, take_all, get_or-drop, get_or-append-add}
+use borrow.Rule.Slice.PartMut.{put_mid}
+use lib.Pointwise.{pointwise}
 use Rattle.basics.specs.Below.{any_below}
 use Rattle.basics.specs.Choice.{pick}
-use Rattle.basics.specs.Parts.{table}
+use Rattle.basics.specs.Parts.{joined, table}
 use Rattle.basics.proofs.Choice.{eq_or_ne}
 use Rattle.basics.proofs.Below.{any_not, any_never, any_same}
-use Rattle.basics.proofs.Parts.{table_at, table_same}
-use Rattle.basics.proofs.Filled.{table_front}
+use Rattle.basics.proofs.Parts.{length_table, table_at, table_same}
+use Rattle.basics.proofs.Filled.{filled, table_front}
 use Rattle.board.specs.Boards.{bytes_of}
 use Rattle.board.specs.declared.Part.{Part}
 use Rattle.board.specs.declared.Part.TheVariants.{Ef9345, Ts9347}
-use Rattle.address.specs.Places.{block_of}
+use Rattle.address.specs.Places.{place_of, block_of}
 use Rattle.address.specs.Rows.{row_y}
 use Rattle.address.proofs.Laws.{facts_page, row_facts}
 use Rattle.shown.specs.declared.Shown.{Shown}
@@ -28,12 +30,21 @@ use Rattle.page.specs.Codes.{code_at, row_buffer}
 use Rattle.page.specs.HowCodes.{code_of, is_fitted, Has}
 use Rattle.page.specs.Halves.{is_tall, is_wide, same_code, goes_on, second_half, lower_half, right_half, lower_halves}
 use Rattle.page.specs.HowHalves.{Compared, right_in, goes_on_in, goes_on_at, next_lower_in, next_lower_at}
+use Rattle.page.specs.declared.stretch.Starts.{Starts}
+use Rattle.page.proofs.Stretches.{compared_on}
+use Rattle.halves.specs.Above.{next_lower_on}
 use Rattle.page.proofs.Codes.{buffer, code_kept, has_block, bare_block, bare_byte, first_fitted}
 
--- the third byte decides where the first two are the same
-pub third : (a b : List ℕ) → get_or a 0 0 ≡ get_or b 0 0 → get_or a 1 0 ≡ get_or b 1 0 → eqb (get_or a 2 0) (get_or b 2 0) ≡ same_code a b
+-- a list of three, and what `==` says of two of them
+three_listed : (a : List ℕ) → length a ≡ 3 → a ≡ get_or a 0 0 ∷ get_or a 1 0 ∷ get_or a 2 0 ∷ []
+three_listed a h =
+    sym (take_all 3 a (omega (arith, h))) ∙ rw (take-suc a 2 0 (omega (arith, h)), take-suc a 1 0 (omega (arith, h)), take-suc a 0 0 (omega (arith, h)))
+
+pub same_is : (a b : List ℕ) → length a ≡ 3 → length b ≡ 3 → pointwise eqb a b ≡ same_code a b
 unfolding same_code
-third a b p q = simp (eq-eqb _ _ p, eq-eqb _ _ q)
+same_is a b p q =
+    ap₂ (pointwise eqb) (three_listed a p) (three_listed b q)
+    ∙ ap (λ (t : Bool). eqb (get_or a 0 0) (get_or b 0 0) && (eqb (get_or a 1 0) (get_or b 1 0) && t)) (and-true (eqb (get_or a 2 0) (get_or b 2 0)))
 
 module _ (doubles : List ℕ → Bool) (code : ℕ → List ℕ) where
   pub first_half : second_half doubles code 0 ≡ false
@@ -162,3 +173,52 @@ module _
 
     pub lower_rows : (lowers : List Bool) → table (next_lower_in shown.part m z y u lowers) 40 ≡ table (next_lower_at shown m r lowers) 40
     lower_rows lowers = table_same _ _ 40 (λ x l. ap (λ (t : Bool). t && not (get_or lowers x false)) (on_row x l))
+
+-- while the halves of a stretch are put, those that are still to come stand as they did
+module _ {A : Type 0} where
+  pub still_there : (f : ℕ → A) (xs₀ xs : List A) (i : ℕ) (d : A) → xs ≡ filled 1 (λ n. f n ∷ []) xs₀ i → get_or xs i d ≡ get_or xs₀ i d
+  still_there f xs₀ xs i d q =
+      let here : i ≡ length (table f i) + 0 = rw (length_table f i) (omega arith) in
+      let there : 1 * i + 0 ≡ i = omega arith in
+      ap (λ (z : List A). get_or z i d) q
+      ∙ ap (λ (k : ℕ). get_or (table f i ++ drop (1 * i) xs₀) k d) here
+      ∙ get_or-append-add (table f i) (drop (1 * i) xs₀) 0 d
+      ∙ get_or-drop (1 * i) xs₀ 0 d
+      ∙ ap (λ (k : ℕ). get_or xs₀ k d) there
+
+  joined_split : (part : ℕ → List A) (a b : ℕ) → joined part (a + b) ≡ joined part a ++ joined (λ i. part (a + i)) b
+  unfolding joined
+  joined_split part a zero = let e : a + 0 ≡ a = omega arith in rw e (sym (append-nil (joined part a)))
+  joined_split part a (suc b) =
+      let e : a + suc b ≡ suc (a + b) = omega arith in
+      rw e (ap (λ (z : List A). z ++ part (a + b)) (joined_split part a b) ∙ append_assoc (joined part a) (joined (λ i. part (a + i)) b) (part (a + b)))
+
+  -- the left 32 of forty put anew, and then the right 8
+  pub two_put :
+      (f : ℕ → A) (xs left right : List A) → length xs ≡ 40 → left ≡ table (λ i. f (0 + i)) 32 → right ≡ table (λ i. f (32 + i)) 8
+      → put_mid 32 8 (left ++ drop 32 xs) right ≡ table f 40
+  two_put f xs left right h p q =
+      let long : length left ≡ 32 = ap length p ∙ length_table _ 32 in
+      ap (λ (z : List A). z ++ (right ++ drop 8 (drop 32 (left ++ drop 32 xs)))) (take_at left (drop 32 xs) 32 long)
+      ∙ ap (λ (z : List A). left ++ (right ++ drop 8 z)) (drop_at left (drop 32 xs) 32 long)
+      ∙ ap (λ (z : List A). left ++ (right ++ z)) (drop-drop 8 32 xs ∙ drop_of_length-le xs {i = 40} (omega (arith, h)))
+      ∙ ap (λ (z : List A). left ++ z) (append-nil right)
+      ∙ ap₂ ◌++◌ (p ∙ table_same _ _ 32 (λ i l. ap f (omega arith))) q
+      ∙ sym (joined_split (λ i. f i ∷ []) 32 8)
+
+-- a stretch of the row at y is put from the halves of the row above it
+pub stretch_next :
+    (m : List ℕ) (z t : ℕ) → Compared m z t → (part : Part) (y u : ℕ) (halves old new : List Bool) (first n : ℕ) → first + n ≤ 40 → first % 32 + n ≤ 32 → (here above : Starts)
+    → (here.c ≡ place_of first y (block_of z 0)) × (here.b ≡ place_of first y (block_of z 1)) × (here.a ≡ place_of first y (block_of z t))
+    → (above.c ≡ place_of first u (block_of z 0)) × (above.b ≡ place_of first u (block_of z 1)) × (above.a ≡ place_of first u (block_of z t))
+    → length old ≡ n → ((i : ℕ) → i < n → get_or old i false ≡ get_or halves (first + i) false) → new ≡ table (next_lower_on part m here above old) (length old)
+    → new ≡ table (λ i. next_lower_in part m z y u halves (first + i)) n
+stretch_next m z t fit part y u halves old new first n column side here above eh ea long same is =
+    is
+    ∙ ap (table (next_lower_on part m here above old)) long
+    ∙ table_same _ _ n
+    (λ i l. ap₂ (λ (on half : Bool). on && not half) (compared_on m z t fit part first i (omega (arith, l)) (omega (arith, l)) y u here above eh ea) (same i l))
+
+-- the right 8, behind the left 32 that are put
+pub right_left : (xs left : List Bool) → length xs ≡ 40 → length left ≡ 32 → take 8 (drop 32 (left ++ drop 32 xs)) ≡ take 8 (drop 32 xs)
+right_left xs left h long = ap (take 8) (drop_at left (drop 32 xs) 32 long)

@@ -1,40 +1,32 @@
 // Which half a double height or a double width cell shows.
-ghost use Rattle.std.specs.Prelude.{◌≡◌, not, ◌&&◌, ◌++◌, ◌+◌, ◌*◌, ◌%◌, ◌<◌, ◌≤◌, length, take, drop};
+ghost use Rattle.std.specs.Prelude.{◌≡◌, ◌<◌, length};
 ghost use Rattle.basics.specs.Below.{any_below};
 ghost use Rattle.basics.specs.Parts.{table};
 ghost use Rattle.basics.specs.Choice.{pick};
 ghost use Rattle.board.specs.Boards.{bytes_of};
 ghost use Rattle.page.specs.Codes.{row_buffer};
 ghost use Rattle.page.specs.Halves.{is_wide, same_code, goes_on, lower_halves};
+ghost use Rattle.halves.specs.Above.{KnownAbove, next_lower_on};
 ghost use Rattle.page.specs.HowCodes.{code_of, is_fitted, Has};
-ghost use Rattle.page.specs.HowHalves.{Compared, right_in, goes_on_at, next_lower_in, next_lower_at, KnownAbove};
+ghost use Rattle.page.specs.HowHalves.{Within, right_in, goes_on_at, next_lower_at};
 
 use address::row::row_y;
 use board::Part;
 use page::code::{is_fitted, is_wide};
-use page::stretch::{compared_by, goes_on_at, some_on, some_wide};
+use page::stretch::{Starts, compared_by, goes_on_at, some_on, some_wide};
 use shown::Shown;
 
 pub fn same_code(a: [u8; 3], b: [u8; 3]) -> bool
     ensures { result ≡ same_code a b }
 {
-    if a[0] != b[0] {
-        return false;
-    }
-    if a[1] != b[1] {
-        return false;
-    }
-    a[2] == b[2]
+    a == b
 }
 
 // A cell that doubles goes on from the cell before it: the same three bytes.
 pub fn goes_on(doubles: bool, code: [u8; 3], before: [u8; 3]) -> bool
     ensures { result ≡ goes_on doubles code before }
 {
-    if doubles {
-        return same_code(code, before);
-    }
-    false
+    doubles && same_code(code, before)
 }
 
 // The right halves of a row: each asked of the cell to its left.
@@ -44,8 +36,7 @@ pub fn right_halves(cells: [[u8; 3]; 40]) -> [bool; 40]
     let mut halves = [false; 40];
     for x in 1..40 {
         let on = goes_on(is_wide(cells[x]), cells[x], cells[x - 1]);
-        let left = halves[x - 1];
-        halves[x] = on & !left;
+        halves[x] = on & !halves[x - 1];
     }
     halves
 }
@@ -78,10 +69,7 @@ pub fn right_halves_of(memory: &[u8], shown: Shown, row: u8, cells: [[u8; 3]; 40
 fn third_of(shown: Shown) -> u8
     ensures { result ≡ pick (is_fitted shown 2) 2 0 }
 {
-    if is_fitted(shown, 2) {
-        return 2;
-    }
-    0
+    if is_fitted(shown, 2) { 2 } else { 0 }
 }
 
 // Some cell of a row goes on from the cell above it. Where no B byte is fitted, no cell is of double height.
@@ -101,37 +89,20 @@ fn some_go_on(memory: &[u8], shown: Shown, row: u8) -> bool
         | some_on(part, memory, z, third, y, above, 32, 8)
 }
 
-// The lower halves of a stretch, put behind those of the cells before it.
-fn next_in(
-    mut next: [bool; 40],
-    part: Part,
-    memory: &[u8],
-    z: u8,
-    third: u8,
-    y: u8,
-    above: u8,
-    first: u16,
-    n: u16,
-    lowers: [bool; 40],
-) -> [bool; 40]
-    requires { Compared memory.now z third × (y < 32) × (above < 32) × (first + n ≤ 40) × (first % 32 + n ≤ 32) × (take first next ≡ table (next_lower_in part memory.now z y above lowers) first) }
-    ensures { result ≡ table (next_lower_in part memory.now z y above lowers) (first + n) ++ drop (1 * (first + n)) next }
+// The lower halves of a stretch of cells, put where those of the row above stand.
+fn put_next(halves: &mut [bool], part: Part, memory: &[u8], here: Starts, above: Starts)
+    requires { Within memory.now here (length halves.old) × Within memory.now above (length halves.old) }
+    ensures { halves.new ≡ table (next_lower_on part memory.now here above halves.old) (length halves.old) }
 {
-    let here = compared_by(z, y, first, third);
-    let over = compared_by(z, above, first, third);
-    for i in 0..n {
-        let x = (first + i) as usize;
-        let on = goes_on_at(part, memory, here, over, i as usize);
-        let lower = lowers[x];
-        next[x] = on & !lower;
+    for (i, half) in halves.iter_mut().enumerate() {
+        *half = goes_on_at(part, memory, here, above, i) & !*half;
     }
-    next
 }
 
 // The lower halves of a row, from those of the row above.
-fn next_lowers(memory: &[u8], shown: Shown, row: u8, lowers: [bool; 40]) -> [bool; 40]
+fn next_lowers(memory: &[u8], shown: Shown, row: u8, mut halves: [bool; 40]) -> [bool; 40]
     requires { (length memory.now ≡ bytes_of shown.blocks) × (0 < row) }
-    ensures { result ≡ table (next_lower_at shown memory.now row lowers) 40 }
+    ensures { result ≡ table (next_lower_at shown memory.now row halves) 40 }
 {
     if !is_fitted(shown, 1) {
         return [false; 40];
@@ -141,8 +112,21 @@ fn next_lowers(memory: &[u8], shown: Shown, row: u8, lowers: [bool; 40]) -> [boo
     let y = row_y(shown.yor(), row);
     let above = row_y(shown.yor(), row - 1);
     let part = shown.part;
-    let left = next_in([false; 40], part, memory, z, third, y, above, 0, 32, lowers);
-    next_in(left, part, memory, z, third, y, above, 32, 8, lowers)
+    put_next(
+        &mut halves[..32],
+        part,
+        memory,
+        compared_by(z, y, 0, third),
+        compared_by(z, above, 0, third),
+    );
+    put_next(
+        &mut halves[32..],
+        part,
+        memory,
+        compared_by(z, y, 32, third),
+        compared_by(z, above, 32, third),
+    );
+    halves
 }
 
 // The lower halves of a row: each asked of the row above, the row number falling to the service row. Where no cell goes on from
@@ -166,14 +150,13 @@ pub fn lower_halves_after(
     memory: &[u8],
     shown: Shown,
     row: u8,
-    known: bool,
-    lowers: [bool; 40],
+    above: Option<[bool; 40]>,
 ) -> [bool; 40]
-    requires { (length memory.now ≡ bytes_of shown.blocks) × KnownAbove shown memory.now row known lowers }
+    requires { (length memory.now ≡ bytes_of shown.blocks) × KnownAbove shown memory.now row above }
     ensures { result ≡ lower_halves shown memory.now row }
 {
-    if known {
-        return next_lowers(memory, shown, row, lowers);
+    match above {
+        Some(lowers) => next_lowers(memory, shown, row, lowers),
+        None => lower_halves(memory, shown, row),
     }
-    lower_halves(memory, shown, row)
 }

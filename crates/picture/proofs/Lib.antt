@@ -1,3 +1,4 @@
+pub mod Marked
 pub mod AnyRows
 pub mod Rows
 pub mod Redrawing

@@ -2,9 +2,10 @@
 -- Assumes nothing.
 use Prim.Native.Nat.{ℕ, ◌+◌, ◌-◌, ◌*◌, ◌<◌, ◌≤◌}
 use mathlib.Core.Path.{◌≡◌, sym, ap, ◌∙◌}
-use mathlib.Core.Bool.{Bool, true, false, false≢true}
-use mathlib.Core.List.{List}
+use mathlib.Core.Bool.{Bool, true, false}
+use mathlib.Core.List.{List, []}
 use native.Mathlib.Omega.{arith}
+use Rattle.std.specs.Prelude.{Option, None, Some, unwrap_or}
 use lib.ListN.{length}
 use borrow.Rule.Slice.PartMut.{put_mid, mid_of}
 use Rattle.basics.specs.Below.{any_below}
@@ -18,7 +19,7 @@ use Rattle.shown.specs.Lengths.{rom_bytes, forty_bytes, eighty_bytes, row_bytes,
 use Rattle.shown.specs.Modes.{is_eighty, column_bytes}
 use Rattle.page.specs.Codes.{row_buffer}
 use Rattle.page.specs.Halves.{lower_halves}
-use Rattle.page.specs.HowHalves.{KnownAbove}
+use Rattle.halves.specs.Above.{KnownAbove}
 use Rattle.rows.specs.Rows.{painted, forty_row}
 use Rattle.eighty.specs.Rows.{eighty_lines, eighty_row}
 use Rattle.rows.specs.HowRows.{inputs_of}
@@ -116,12 +117,14 @@ module _
         (done.0 ∙ eighty_redrawn marks old m rom shown eighty, done.1)
 
 -- what the loop knows of the row above: nothing, or the row that it has just drawn
-module _ (m : List ℕ) (shown : Shown) (r : ℕ) where
-  pub not_known : (lowers : List Bool) → KnownAbove shown m r false lowers
-  not_known lowers e = absurd (false≢true e)
+pub not_known : (m : List ℕ) (shown : Shown) (r : ℕ) → KnownAbove shown m r None
+not_known m shown r lowers e = absurd (cc)
 
-  pub known_next : (lowers : List Bool) → lowers ≡ lower_halves shown m r → KnownAbove shown m (r + 1) true lowers
-  known_next lowers h e = let back : r + 1 - 1 ≡ r = omega arith in (omega arith, h ∙ ap (lower_halves shown m) (sym back))
+pub known_next : (m : List ℕ) (shown : Shown) (r : ℕ) (lowers : List Bool) → lowers ≡ lower_halves shown m r → KnownAbove shown m (r + 1) (Some lowers)
+known_next m shown r lowers h others e =
+    let back : r + 1 - 1 ≡ r = omega arith in
+    let same : lowers ≡ others = ap (λ (o : Option (List Bool)). unwrap_or o []) e in
+    (omega arith, sym same ∙ h ∙ ap (lower_halves shown m) (sym back))
 
 pub fresh_part : (m rom : List ℕ) (shown : Shown) (r : ℕ) → r < 25 → part_of (row_bytes (column_bytes shown)) (fresh m rom shown) r ≡ row_of m rom shown r
 unfolding fresh

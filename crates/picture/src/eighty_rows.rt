@@ -25,8 +25,8 @@ pub fn redraw_eighty(
 {
     let inks = inks_of(shown);
     let mut rows = 0;
-    for r in 0..25 {
-        if !marks[r] {
+    for (r, marked) in marks.iter().enumerate() {
+        if !*marked {
             continue;
         }
         let here = row_buffer(memory, shown, r as u8);

@@ -18,11 +18,7 @@ use shown::length::ROW_BYTES;
 fn some_marked(marks: [bool; 25]) -> bool
     ensures { result ≡ any_below (is_marked marks) 25 }
 {
-    let mut found = false;
-    for r in 0..25 {
-        found = found | marks[r];
-    }
-    found
+    marks.contains(&true)
 }
 
 // Row by row, in 40 columns. The lower halves of a row that was just drawn are kept for the row below it.
@@ -37,15 +33,14 @@ fn redraw_rows(
     ensures { (picture.new ≡ redrawn marks picture.old memory.now rom.now shown) × (result ≡ marked_rows marks 25) }
 {
     let mut rows = 0;
-    let mut known = false;
-    let mut halves = [false; 40];
-    for r in 0..25 {
-        if !marks[r] {
-            known = false;
+    let mut above = None;
+    for (r, marked) in marks.iter().enumerate() {
+        if !*marked {
+            above = None;
             continue;
         }
         let here = row_buffer(memory, shown, r as u8);
-        let lowers = lower_halves_after(memory, shown, r as u8, known, halves);
+        let lowers = lower_halves_after(memory, shown, r as u8, above);
         let rights = right_halves_of(memory, shown, r as u8, here);
         draw_row(
             &mut picture[ROW_BYTES * r..ROW_BYTES * r + ROW_BYTES],
@@ -56,8 +51,7 @@ fn redraw_rows(
             lowers,
             rights,
         );
-        halves = lowers;
-        known = true;
+        above = Some(lowers);
         rows += 1;
     }
     rows

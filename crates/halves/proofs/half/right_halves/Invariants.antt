@@ -2,11 +2,7 @@ use Rattle.page.specs.HowHalves.{right_in}
 use Rattle.basics.specs.Parts.{table}
 use lib.ListN.{length, take}
 use mathlib.Core.Path.{◌≡◌}
-use Prim.Native.Nat.{◌≤◌, ◌-◌}
 use Rattle.halves.proofs.half.right_halves.Given as goal
 
 abbrev pub invariant-loop-x : goal.invariant-loop-x
-invariant-loop-x l = (1 ≤ l.x) × (l.x ≤ 40) × (length l.halves ≡ 40) × (take l.x l.halves ≡ table (right_in l.cells) l.x)
-
-abbrev pub decreases-loop-x : goal.decreases-loop-x
-decreases-loop-x l = 40 - l.x
+invariant-loop-x l = (length l.halves ≡ 40) × (take l.x l.halves ≡ table (right_in l.cells) l.x)

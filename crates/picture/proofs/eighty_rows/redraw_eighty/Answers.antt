@@ -9,10 +9,10 @@ use Rattle.picture.proofs.eighty_rows.redraw_eighty.Goals as goal
 pub loop-r-init : goal.loop-r-init
 loop-r-init c = start _ _ _ _ c.requires.0
 
-pub loop-r-preserved-then-not-marks-r : goal.loop-r-preserved-then-not-marks-r
-loop-r-preserved-then-not-marks-r c = let l = c.loop-r in
+pub loop-r-preserved-then-not-marked : goal.loop-r-preserved-then-not-marked
+loop-r-preserved-then-not-marked c = let l = c.loop-r in
     let a = c.args in
-    keep eighty_bytes _ _ (eighty_row a.memory.now a.rom.now a.shown) _ _ _ l.invariant c.loop-r-test.true c.if-not-marks-r.true
+    keep eighty_bytes _ _ (eighty_row a.memory.now a.rom.now a.shown) _ _ _ l.invariant c.loop-r-test.true c.if-not-marked.true
 
 pub draw_row-requires : goal.draw_row-requires
 draw_row-requires c = (search rules, omega (arith, c.requires.2, rom_least c.args.shown.part), c.inks_of-inks.ensures)
@@ -20,7 +20,7 @@ draw_row-requires c = (search rules, omega (arith, c.requires.2, rom_least c.arg
 pub loop-r-preserved : goal.loop-r-preserved
 loop-r-preserved c = let l = c.loop-r in
     let a = c.args in
-    drew_eighty _ _ a.memory.now a.rom.now a.shown _ _ _ l.invariant c.loop-r-test.true c.if-not-marks-r.false _ c.draw_row.new.part
+    drew_eighty _ _ a.memory.now a.rom.now a.shown _ _ _ l.invariant c.loop-r-test.true c.if-not-marked.false _ c.draw_row.new.part
     c.row_buffer-here.ensures c.draw_row.ensures c.draw_row.auto.part
 
 pub returns : goal.returns

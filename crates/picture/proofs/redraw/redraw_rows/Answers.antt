@@ -7,13 +7,13 @@ use borrow.Author.Rules.{rules}
 use Rattle.picture.proofs.redraw.redraw_rows.Goals as goal
 
 pub loop-r-init : goal.loop-r-init
-loop-r-init c = (start _ _ _ _ c.requires.0, not_known c.args.memory.now c.args.shown _ _)
+loop-r-init c = (start _ _ _ _ c.requires.0, not_known c.args.memory.now c.args.shown 0)
 
-pub loop-r-preserved-then-not-marks-r : goal.loop-r-preserved-then-not-marks-r
-loop-r-preserved-then-not-marks-r c = let l = c.loop-r in
+pub loop-r-preserved-then-not-marked : goal.loop-r-preserved-then-not-marked
+loop-r-preserved-then-not-marked c = let l = c.loop-r in
     let a = c.args in (
-      keep forty_bytes _ _ (forty_row a.memory.now a.rom.now a.shown) _ _ _ l.invariant.0 c.loop-r-test.true c.if-not-marks-r.true,
-      not_known a.memory.now a.shown (l.r + 1) l.halves,
+      keep forty_bytes _ _ (forty_row a.memory.now a.rom.now a.shown) _ _ _ l.invariant.0 c.loop-r-test.true c.if-not-marked.true,
+      not_known a.memory.now a.shown (l.r + 1),
     )
 
 pub draw_row-requires : goal.draw_row-requires
@@ -22,7 +22,7 @@ draw_row-requires c = (search rules, search rules, search rules, c.right_halves_
 pub loop-r-preserved : goal.loop-r-preserved
 loop-r-preserved c = let l = c.loop-r in
     let a = c.args in (
-      drew_row _ _ a.memory.now a.rom.now a.shown _ _ _ l.invariant.0 c.loop-r-test.true c.if-not-marks-r.false _ _ c.draw_row.new.lent
+      drew_row _ _ a.memory.now a.rom.now a.shown _ _ _ l.invariant.0 c.loop-r-test.true c.if-not-marked.false _ _ c.draw_row.new.lent
           c.row_buffer-here.ensures c.lower_halves_after-lowers.ensures c.draw_row.ensures (search rules),
       known_next a.memory.now a.shown l.r _ c.lower_halves_after-lowers.ensures,
     )
