@@ -3,7 +3,6 @@ ghost use Rattle.std.specs.Prelude.{◌≡◌, ◌<◌, length};
 ghost use Rattle.basics.specs.Below.{any_below};
 ghost use Rattle.basics.specs.Parts.{table};
 ghost use Rattle.basics.specs.Choice.{pick};
-ghost use Rattle.board.specs.Boards.{bytes_of};
 ghost use Rattle.page.specs.Codes.{row_buffer};
 ghost use Rattle.page.specs.Halves.{is_wide, same_code, goes_on, lower_halves};
 ghost use Rattle.halves.specs.Above.{KnownAbove, next_lower_on};
@@ -15,6 +14,7 @@ use board::Part;
 use page::code::{is_fitted, is_wide};
 use page::stretch::{Starts, compared_by, goes_on_at, some_on, some_wide};
 use shown::Shown;
+use shown::page::Page;
 
 pub fn same_code(a: [u8; 3], b: [u8; 3]) -> bool
     ensures { result ≡ same_code a b }
@@ -50,16 +50,17 @@ fn has_wide(memory: &[u8], z: u8, y: u8) -> bool
 }
 
 // The right halves of a screen row. Where it has no cell of double width there is nothing to ask: so where no B byte is fitted.
-pub fn right_halves_of(memory: &[u8], shown: Shown, row: u8, cells: [[u8; 3]; 40]) -> [bool; 40]
-    requires { (length memory.now ≡ bytes_of shown.blocks) × (cells ≡ row_buffer shown memory.now row) }
+pub fn right_halves_of(page: &Page, row: u8, cells: [[u8; 3]; 40]) -> [bool; 40]
+    requires { (cells ≡ row_buffer page.now.shown page.now.memory.now row) }
     ensures { result ≡ table (right_in cells) 40 }
 {
-    if !is_fitted(shown, 1) {
+    if !is_fitted(page.shown, 1) {
         return [false; 40];
     }
+    let shown = page.shown;
     let z = shown.first_block();
     let y = row_y(shown.yor(), row);
-    if has_wide(memory, z, y) {
+    if has_wide(page.memory, z, y) {
         return right_halves(cells);
     }
     [false; 40]
@@ -73,20 +74,21 @@ fn third_of(shown: Shown) -> u8
 }
 
 // Some cell of a row goes on from the cell above it. Where no B byte is fitted, no cell is of double height.
-fn some_go_on(memory: &[u8], shown: Shown, row: u8) -> bool
-    requires { (length memory.now ≡ bytes_of shown.blocks) × (0 < row) }
-    ensures { result ≡ any_below (goes_on_at shown memory.now row) 40 }
+fn some_go_on(page: &Page, row: u8) -> bool
+    requires { (0 < row) }
+    ensures { result ≡ any_below (goes_on_at page.now.shown page.now.memory.now row) 40 }
 {
-    if !is_fitted(shown, 1) {
+    if !is_fitted(page.shown, 1) {
         return false;
     }
+    let shown = page.shown;
     let third = third_of(shown);
     let z = shown.first_block();
     let y = row_y(shown.yor(), row);
     let above = row_y(shown.yor(), row - 1);
     let part = shown.part;
-    some_on(part, memory, z, third, y, above, 0, 32)
-        | some_on(part, memory, z, third, y, above, 32, 8)
+    some_on(part, page.memory, z, third, y, above, 0, 32)
+        | some_on(part, page.memory, z, third, y, above, 32, 8)
 }
 
 // The lower halves of a stretch of cells, put where those of the row above stand.
@@ -100,13 +102,14 @@ fn put_next(halves: &mut [bool], part: Part, memory: &[u8], here: Starts, above:
 }
 
 // The lower halves of a row, from those of the row above.
-fn next_lowers(memory: &[u8], shown: Shown, row: u8, mut halves: [bool; 40]) -> [bool; 40]
-    requires { (length memory.now ≡ bytes_of shown.blocks) × (0 < row) }
-    ensures { result ≡ table (next_lower_at shown memory.now row halves) 40 }
+fn next_lowers(page: &Page, row: u8, mut halves: [bool; 40]) -> [bool; 40]
+    requires { (0 < row) }
+    ensures { result ≡ table (next_lower_at page.now.shown page.now.memory.now row halves) 40 }
 {
-    if !is_fitted(shown, 1) {
+    if !is_fitted(page.shown, 1) {
         return [false; 40];
     }
+    let shown = page.shown;
     let third = third_of(shown);
     let z = shown.first_block();
     let y = row_y(shown.yor(), row);
@@ -115,14 +118,14 @@ fn next_lowers(memory: &[u8], shown: Shown, row: u8, mut halves: [bool; 40]) -> 
     put_next(
         &mut halves[..32],
         part,
-        memory,
+        page.memory,
         compared_by(z, y, 0, third),
         compared_by(z, above, 0, third),
     );
     put_next(
         &mut halves[32..],
         part,
-        memory,
+        page.memory,
         compared_by(z, y, 32, third),
         compared_by(z, above, 32, third),
     );
@@ -131,32 +134,26 @@ fn next_lowers(memory: &[u8], shown: Shown, row: u8, mut halves: [bool; 40]) -> 
 
 // The lower halves of a row: each asked of the row above, the row number falling to the service row. Where no cell goes on from
 // the one above it, there is nothing to ask.
-pub fn lower_halves(memory: &[u8], shown: Shown, row: u8) -> [bool; 40]
-    requires { length memory.now ≡ bytes_of shown.blocks }
-    ensures { result ≡ lower_halves shown memory.now row }
+pub fn lower_halves(page: &Page, row: u8) -> [bool; 40]
+    ensures { result ≡ lower_halves page.now.shown page.now.memory.now row }
 {
     if row == 0 {
         return [false; 40];
     }
-    if some_go_on(memory, shown, row) {
-        let lowers = lower_halves(memory, shown, row - 1);
-        return next_lowers(memory, shown, row, lowers);
+    if some_go_on(page, row) {
+        let lowers = lower_halves(page, row - 1);
+        return next_lowers(page, row, lowers);
     }
     [false; 40]
 }
 
 // The lower halves of a row, by one step where those of the row above are known.
-pub fn lower_halves_after(
-    memory: &[u8],
-    shown: Shown,
-    row: u8,
-    above: Option<[bool; 40]>,
-) -> [bool; 40]
-    requires { (length memory.now ≡ bytes_of shown.blocks) × KnownAbove shown memory.now row above }
-    ensures { result ≡ lower_halves shown memory.now row }
+pub fn lower_halves_after(page: &Page, row: u8, above: Option<[bool; 40]>) -> [bool; 40]
+    requires { KnownAbove page.now.shown page.now.memory.now row above }
+    ensures { result ≡ lower_halves page.now.shown page.now.memory.now row }
 {
     match above {
-        Some(lowers) => next_lowers(memory, shown, row, lowers),
-        None => lower_halves(memory, shown, row),
+        Some(lowers) => next_lowers(page, row, lowers),
+        None => lower_halves(page, row),
     }
 }
