@@ -12,10 +12,8 @@ use Rattle.basics.specs.Below.{any_below}
 use Rattle.basics.specs.Choice.{pick}
 use Rattle.basics.specs.Parts.{part_of}
 use Rattle.basics.proofs.Below.{any_not, count_never}
-use Rattle.board.specs.declared.Part.{Part}
-use Rattle.board.specs.declared.Part.TheVariants.{Ef9345, Ts9347}
 use Rattle.shown.specs.declared.Shown.{Shown}
-use Rattle.shown.specs.Lengths.{rom_bytes, forty_bytes, eighty_bytes, row_bytes, picture_bytes}
+use Rattle.shown.specs.Lengths.{forty_bytes, eighty_bytes, row_bytes, picture_bytes}
 use Rattle.shown.specs.Modes.{is_eighty, column_bytes}
 use Rattle.page.specs.Codes.{row_buffer}
 use Rattle.page.specs.Halves.{lower_halves}
@@ -90,11 +88,6 @@ module _
     redrawn_end forty l =
         let done = end forty_bytes marks old (forty_row m rom shown) picture rows r d l in
         (done.0 ∙ forty_redrawn marks old m rom shown forty, done.1)
-
--- a ROM has at least the first of its sets
-pub rom_least : (part : Part) → 1280 ≤ rom_bytes part
-rom_least Ef9345 = omega arith
-rom_least Ts9347 = omega arith
 
 -- the loop over those of 80: a row that is drawn from its row buffer, and the end
 module _

@@ -1,8 +1,7 @@
 // The redrawing of the marked rows: no other byte changes.
 ghost use Rattle.std.specs.Prelude.{◌≡◌, false, length};
 ghost use Rattle.basics.specs.Below.{any_below};
-ghost use Rattle.board.specs.Boards.{bytes_of};
-ghost use Rattle.shown.specs.Lengths.{rom_bytes, forty_bytes, picture_bytes};
+ghost use Rattle.shown.specs.Lengths.{forty_bytes, picture_bytes};
 ghost use Rattle.shown.specs.Modes.{is_eighty, column_bytes};
 ghost use Rattle.page.specs.Marks.{is_marked, marked_rows};
 ghost use Rattle.picture.specs.Redraws.{redrawn};
@@ -11,8 +10,8 @@ use crate::eighty_rows::redraw_eighty;
 use halves::half::{lower_halves_after, right_halves_of};
 use page::code::row_buffer;
 use rows::row::draw_row;
-use shown::Shown;
 use shown::length::ROW_BYTES;
+use shown::page::Scene;
 
 // Some row is marked.
 fn some_marked(marks: [bool; 25]) -> bool
@@ -22,15 +21,9 @@ fn some_marked(marks: [bool; 25]) -> bool
 }
 
 // Row by row, in 40 columns. The lower halves of a row that was just drawn are kept for the row below it.
-fn redraw_rows(
-    picture: &mut [u8],
-    memory: &[u8],
-    rom: &[u8],
-    shown: Shown,
-    marks: [bool; 25],
-) -> usize
-    requires { (length picture.old ≡ picture_bytes forty_bytes) × (length memory.now ≡ bytes_of shown.blocks) × (length rom.now ≡ rom_bytes shown.part) × (is_eighty shown ≡ false) }
-    ensures { (picture.new ≡ redrawn marks picture.old memory.now rom.now shown) × (result ≡ marked_rows marks 25) }
+fn redraw_rows(picture: &mut [u8], scene: &Scene, marks: [bool; 25]) -> usize
+    requires { (length picture.old ≡ picture_bytes forty_bytes) × (is_eighty scene.now.page.shown ≡ false) }
+    ensures { (picture.new ≡ redrawn marks picture.old scene.now.page.memory.now scene.now.rom.now scene.now.page.shown) × (result ≡ marked_rows marks 25) }
 {
     let mut rows = 0;
     let mut above = None;
@@ -39,14 +32,12 @@ fn redraw_rows(
             above = None;
             continue;
         }
-        let here = row_buffer(memory, shown, r as u8);
-        let lowers = lower_halves_after(memory, shown, r as u8, above);
-        let rights = right_halves_of(memory, shown, r as u8, here);
+        let here = row_buffer(&scene.page, r as u8);
+        let lowers = lower_halves_after(&scene.page, r as u8, above);
+        let rights = right_halves_of(&scene.page, r as u8, here);
         draw_row(
             &mut picture[ROW_BYTES * r..ROW_BYTES * r + ROW_BYTES],
-            memory,
-            rom,
-            shown,
+            scene,
             here,
             lowers,
             rights,
@@ -58,21 +49,15 @@ fn redraw_rows(
 }
 
 // Returns the number of marked rows. Most draws of a panel that waits find none, and are done at once.
-pub fn redraw(
-    picture: &mut [u8],
-    memory: &[u8],
-    rom: &[u8],
-    shown: Shown,
-    marks: [bool; 25],
-) -> usize
-    requires { (length picture.old ≡ picture_bytes (column_bytes shown)) × (length memory.now ≡ bytes_of shown.blocks) × (length rom.now ≡ rom_bytes shown.part) }
-    ensures { (picture.new ≡ redrawn marks picture.old memory.now rom.now shown) × (result ≡ marked_rows marks 25) }
+pub fn redraw(picture: &mut [u8], scene: &Scene, marks: [bool; 25]) -> usize
+    requires { length picture.old ≡ picture_bytes (column_bytes scene.now.page.shown) }
+    ensures { (picture.new ≡ redrawn marks picture.old scene.now.page.memory.now scene.now.rom.now scene.now.page.shown) × (result ≡ marked_rows marks 25) }
 {
     if !some_marked(marks) {
         return 0;
     }
-    if shown.is_eighty() {
-        return redraw_eighty(picture, memory, rom, shown, marks);
+    if scene.page.shown.is_eighty() {
+        return redraw_eighty(picture, scene, marks);
     }
-    redraw_rows(picture, memory, rom, shown, marks)
+    redraw_rows(picture, scene, marks)
 }
