@@ -12,7 +12,8 @@ use lib.ListN.{length, get_or-eq_default}
 use borrow.Author.Tests.{lt-ltb, le-ltb, ne_eqb}
 use Rattle.basics.specs.Choice.{pick}
 use Rattle.basics.proofs.Choice.{lt_or_le}
-use Rattle.address.specs.declared.answer.Address.TheVariants.{Illegal, NotFitted, Fitted}
+use Rattle.std.proofs.Common.{Ok, Err}
+use Rattle.address.specs.declared.answer.NoPlace.TheVariants.{Illegal, NotFitted}
 use Rattle.address.specs.declared.triple.Triple.{Triple}
 use Rattle.address.specs.Addresses.{address_of, is_illegal, is_not_fitted, byte_from, is_at}
 use Rattle.board.specs.Boards.{bytes_of}
@@ -22,15 +23,15 @@ use Rattle.address.proofs.Places.{place_block, place_injective}
 
 module _ (n : ℕ) (t : Triple) where
   -- the three ways
-  pub address_illegal : legal t ≡ false → address_of n t ≡ Illegal
+  pub address_illegal : legal t ≡ false → address_of n t ≡ Err Illegal
   unfolding address_of
   address_illegal e = rw e
 
-  pub address_bare : legal t ≡ true → n ≤ t.z → address_of n t ≡ NotFitted
+  pub address_bare : legal t ≡ true → n ≤ t.z → address_of n t ≡ Err NotFitted
   unfolding address_of
   address_bare e l = rw (e, le-ltb t.z n l)
 
-  pub address_fitted : legal t ≡ true → t.z < n → address_of n t ≡ Fitted (place_at t)
+  pub address_fitted : legal t ≡ true → t.z < n → address_of n t ≡ Ok (place_at t)
   unfolding address_of
   address_fitted e l = rw (e, lt-ltb t.z n l)
 
@@ -39,7 +40,7 @@ module _ (n : ℕ) (t : Triple) where
   unfolding address_of
   illegal_test = go (legal t) (fitted n t)
     where
-      go : (a b : Bool) → is_illegal (pick a (pick b (Fitted (place_at t)) NotFitted) Illegal) ≡ not a
+      go : (a b : Bool) → is_illegal (pick a (pick b (Ok (place_at t)) (Err NotFitted)) (Err Illegal)) ≡ not a
       go true true = refl
       go true false = refl
       go false b = refl
@@ -48,7 +49,7 @@ module _ (n : ℕ) (t : Triple) where
   unfolding address_of
   bare_test = go (legal t) (fitted n t)
     where
-      go : (a b : Bool) → is_not_fitted (pick a (pick b (Fitted (place_at t)) NotFitted) Illegal) ≡ (a && not b)
+      go : (a b : Bool) → is_not_fitted (pick a (pick b (Ok (place_at t)) (Err NotFitted)) (Err Illegal)) ≡ (a && not b)
       go true true = refl
       go true false = refl
       go false b = refl

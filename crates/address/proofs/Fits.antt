@@ -8,9 +8,8 @@ use mathlib.Core.List.{List}
 use native.Mathlib.Omega.{arith}
 use borrow.Author.Tests.{not-true, not-false}
 use Rattle.basics.proofs.Choice.{and_left, and_right, and_both, or_none, or_neither}
-use Rattle.address.specs.declared.answer.Address.{Address}
 use Rattle.address.specs.declared.triple.Triple.{Triple}
-use Rattle.address.specs.Addresses.{address_of, is_illegal, is_not_fitted, byte_addresses, code_addresses, narrow_addresses, some_address, all_fitted}
+use Rattle.address.specs.Addresses.{Address, address_of, is_illegal, is_not_fitted, byte_addresses, code_addresses, narrow_addresses, some_address, all_fitted}
 use Rattle.address.specs.Narrow.{attributes_at}
 use Rattle.address.specs.Places.{block_at}
 use Rattle.address.specs.Triples.{legal, fitted, legal_in}

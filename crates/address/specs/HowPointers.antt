@@ -1,11 +1,14 @@
--- How the code takes Z of either part by one sum. Nothing here has to be believed: the contract of `pointer::main_pointer` is an equation with
--- `main_pointer`.
+-- How the code takes both pointers of either part. Nothing here has to be believed: the contracts of `pointer::main_pointer` and
+-- `pointer::auxiliary_pointer` are equations with the definitions of those names.
 -- Assumes nothing.
-use Rattle.std.specs.Prelude.{ℕ, ◌/◌}
-use Rattle.board.specs.declared.Part.{Part}
-use Rattle.board.specs.declared.Part.TheVariants.{Ef9345, Ts9347}
+use Rattle.std.specs.Prelude.{ℕ, ◌+◌, ◌*◌, ◌/◌, ◌%◌}
+use Rattle.address.specs.declared.triple.Triple.{Triple}
 
--- how many eights R6 gives Z
-abbrev pub eights_of : Part → ℕ → ℕ
-eights_of Ef9345 r6 = r6 / 128
-eights_of Ts9347 r6 = r6 / 64
+-- from how many eights Z has, the register that has Y and the one that has X
+abbrev pub pointer_of : ℕ → ℕ → ℕ → Triple
+pointer_of eights y x =
+    record {
+      x = x % 64;
+      y = y % 32;
+      z = eights * 8 + y / 32 % 2 * 4 + x / 64 % 2 * 2 + x / 128 % 2;
+    }

@@ -2,8 +2,7 @@
 -- Assumes nothing.
 use Rattle.std.specs.Prelude.{ℕ, ◌+◌, ◌*◌}
 use Rattle.basics.specs.Bits.{bits}
-use Rattle.address.specs.Addresses.{address_of}
-use Rattle.address.specs.declared.answer.Address.{Address}
+use Rattle.address.specs.Addresses.{Address, address_of}
 use Rattle.address.specs.declared.triple.Triple.{Triple}
 
 -- it is at Y = C bits 6..2

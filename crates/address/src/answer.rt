@@ -5,25 +5,25 @@ ghost use Rattle.address.specs.Addresses.{address_of};
 use crate::place::place;
 use crate::triple::{Triple, is_legal};
 
-#[derive(Clone, Copy)]
-pub enum Address {
+// Why the byte of a triple has no place.
+#[derive(Clone, Copy, Debug, PartialEq, Eq)]
+pub enum NoPlace {
     // X above 39, or Y from 1 to 7.
     Illegal,
     // Legal, in a block that the board does not have.
     NotFitted,
-    // Legal and fitted: its place.
-    Fitted(usize),
 }
 
 // (The commands and the drawing ask for what they need of it, which takes less: whether the pointer is legal, whether all their blocks are fitted.)
-pub fn address_of(blocks: u8, at: Triple) -> Address
+#[tactic(auto, unfolding(crate::specs::Addresses::address_of))]
+pub fn address_of(blocks: u8, at: Triple) -> Result<usize, NoPlace>
     ensures { result ≡ address_of blocks at }
 {
-    if is_legal(at) {
-        if at.z < blocks {
-            return Address::Fitted(place(at));
-        }
-        return Address::NotFitted;
+    if !is_legal(at) {
+        return Err(NoPlace::Illegal);
     }
-    Address::Illegal
+    if blocks <= at.z {
+        return Err(NoPlace::NotFitted);
+    }
+    Ok(place(at))
 }

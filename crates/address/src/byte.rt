@@ -7,20 +7,17 @@ ghost use Rattle.address.specs.Triples.{legal_in};
 use crate::place::place;
 use crate::triple::Triple;
 
+#[tactic(auto, using(crate::proofs::Places::place_fits_in))]
 pub fn load(memory: &[u8], blocks: u8, at: Triple) -> u8
     requires { (length memory.now ≡ bytes_of blocks) × (legal_in blocks at ≡ true) }
     ensures { result ≡ loaded at memory.now }
 {
-    let p = place(at);
-    memory[p]
+    memory[place(at)]
 }
 
 // 0 past the end of memory.
 pub fn byte_or_zero(memory: &[u8], p: usize) -> u8
     ensures { result ≡ byte_at memory.now p }
 {
-    if p < memory.len() {
-        return memory[p];
-    }
-    0
+    memory.get(p).copied().unwrap_or(0)
 }

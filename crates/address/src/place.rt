@@ -5,6 +5,7 @@ ghost use Rattle.address.specs.Places.{place_of, block_of, place_at, block_at};
 use crate::triple::Triple;
 
 // The place at X, Y, Z. Sixteen bits each, so that no value can overflow.
+#[tactic(auto, unfolding(crate::specs::Places::place_of))]
 pub fn place_at(x: u16, y: u16, z: u16) -> usize
     ensures { result ≡ place_of x y z }
 {
@@ -39,8 +40,7 @@ pub fn block_at(at: Triple, k: u8) -> Triple
     ensures { result ≡ block_at at k }
 {
     Triple {
-        x: at.x,
-        y: at.y,
         z: block(at.z, k),
+        ..at
     }
 }

@@ -18,24 +18,22 @@ pub fn attributes_at(at: Triple) -> Triple
     ensures { result ≡ attributes_at at }
 {
     let even = Triple {
-        x: at.x,
-        y: at.y,
         z: at.z / 2 * 2,
+        ..at
     };
     block_at(even, 2)
 }
 
 // The low half is the odd position's.
+#[tactic(auto, unfolding(crate::specs::Narrow::nibble_for))]
 pub fn nibble_for(odd: bool, byte: u8) -> u8
     ensures { result ≡ nibble_for odd byte }
 {
-    if odd {
-        return byte % 16;
-    }
-    byte / 16
+    if odd { byte % 16 } else { byte / 16 }
 }
 
 // The position's nibble, in both halves.
+#[tactic(auto, using(crate::proofs::Positions::nibble_small))]
 pub fn both_halves(odd: bool, byte: u8) -> u8
     ensures { result ≡ both_halves (nibble_for odd byte) }
 {
@@ -44,11 +42,13 @@ pub fn both_halves(odd: bool, byte: u8) -> u8
 }
 
 // The byte with the position's half from R3, and the other as it is.
+#[tactic(auto, unfolding(crate::specs::Narrow::nibble_into))]
 pub fn nibble_into(odd: bool, byte: u8, r3: u8) -> u8
     ensures { result ≡ nibble_into odd byte r3 }
 {
     if odd {
-        return byte / 16 * 16 + r3 % 16;
+        byte / 16 * 16 + r3 % 16
+    } else {
+        r3 / 16 * 16 + byte % 16
     }
-    r3 / 16 * 16 + byte % 16
 }

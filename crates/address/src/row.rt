@@ -7,13 +7,11 @@ ghost use Rattle.address.specs.Rows.{row_y};
 pub fn past_eight(yor: u8) -> u8
     ensures { result ≡ yor - 8 }
 {
-    if yor < 8 {
-        return 0;
-    }
-    yor - 8
+    yor.saturating_sub(8)
 }
 
 // Rows from 1 go round the 24 Ys from 8 on, from the origin.
+#[tactic(auto, unfolding(crate::specs::Rows::row_y))]
 pub fn row_y(yor: u8, row: u8) -> u8
     ensures { result ≡ row_y yor row }
 {
@@ -21,11 +19,5 @@ pub fn row_y(yor: u8, row: u8) -> u8
         return 0;
     }
     let on = past_eight(yor) as u16 + row as u16 - 1;
-    if on < 24 {
-        return 8 + on as u8;
-    }
-    if on < 48 {
-        return on as u8 - 16;
-    }
     8 + (on % 24) as u8
 }

@@ -2,7 +2,7 @@
 ghost use Rattle.std.specs.Prelude.{◌≡◌};
 ghost use Rattle.address.specs.Triples.{legal_y, legal};
 
-#[derive(Clone, Copy)]
+#[derive(Clone, Copy, Debug, PartialEq, Eq)]
 pub struct Triple {
     pub x: u8,
     pub y: u8,
@@ -10,24 +10,17 @@ pub struct Triple {
 }
 
 // Y 0 or 8..31.
+#[tactic(auto, unfolding(crate::specs::Triples::legal_y))]
 pub fn is_legal_y(y: u8) -> bool
     ensures { result ≡ legal_y y }
 {
-    if y == 0 {
-        return true;
-    }
-    if y < 8 {
-        return false;
-    }
-    y < 32
+    y == 0 || 8 <= y && y < 32
 }
 
 // X 0..39, Y 0 or 8..31; Z is whatever a pointer can say.
+#[tactic(auto, unfolding(crate::specs::Triples::on_page))]
 pub fn is_legal(t: Triple) -> bool
     ensures { result ≡ legal t }
 {
-    if 40 <= t.x {
-        return false;
-    }
-    is_legal_y(t.y)
+    t.x < 40 && is_legal_y(t.y)
 }

@@ -1,9 +1,9 @@
 -- The page's twelve cases as one table: what the definitions give, and what the page says that they give.
 -- Assumes nothing.
-use Rattle.std.specs.Prelude.{ℕ, ◌≡◌, refl, true, false, List, [], ◌∷◌, ◌++◌, map}
+use Rattle.std.specs.Prelude.{ℕ, ◌≡◌, refl, true, false, List, [], ◌∷◌, ◌++◌, map, Ok, Err}
 use Rattle.basics.specs.Below.{count_below, last_below}
 use Rattle.basics.specs.Parts.{joined}
-use Rattle.address.specs.Addresses.{address_of}
+use Rattle.address.specs.Addresses.{Address, address_of}
 use Rattle.board.specs.Boards.{full_board}
 use Rattle.board.specs.declared.Part.TheVariants.{Ef9345}
 use Rattle.address.specs.Triples.{legal_y, on_page}
@@ -11,8 +11,6 @@ use Rattle.address.specs.Pointers.{main_pointer}
 use Rattle.address.specs.Places.{place_of}
 use Rattle.address.specs.Rows.{row_y}
 use Rattle.address.specs.Slices.{slice_address}
-use Rattle.address.specs.declared.answer.Address.{Address}
-use Rattle.address.specs.declared.answer.Address.TheVariants.{Illegal, NotFitted, Fitted}
 use Rattle.shown.specs.declared.Shown.{Shown}
 use Rattle.colour.specs.Colours.{nibble_of}
 use Rattle.colour.specs.Ranks.{colour_of_rank, has_rank, rank_of}
@@ -39,9 +37,8 @@ pointer r6 r7 =
 
 -- the place of an address, which has one where it is legal and fitted
 placed : Address → List ℕ
-placed Illegal = []
-placed NotFitted = []
-placed (Fitted p) = p ∷ []
+placed (Err why) = []
+placed (Ok p) = p ∷ []
 
 -- the place of slice nt of the character c in block z, on 16 blocks
 slice : ℕ → ℕ → ℕ → List ℕ

@@ -10,10 +10,9 @@ use Rattle.basics.specs.Bits.{from_bits}
 use Rattle.basics.specs.Parts.{table}
 use Rattle.basics.proofs.Bits.{byte_number}
 use Rattle.basics.proofs.Parts.{table_at, table_same, table_of}
-use Rattle.address.specs.Addresses.{byte_from}
+use Rattle.address.specs.Addresses.{Address, byte_from}
 use Rattle.address.specs.Slices.{slice_address}
-use Rattle.address.specs.declared.answer.Address.{Address}
-use Rattle.address.specs.declared.answer.Address.TheVariants.{Illegal, NotFitted, Fitted}
+use Rattle.std.proofs.Common.{Ok, Err}
 use Rattle.board.specs.declared.Part.{Part}
 use Rattle.board.specs.declared.Part.TheVariants.{Ef9345, Ts9347}
 use Rattle.shown.specs.declared.Shown.{Shown}
@@ -38,9 +37,8 @@ module _ (m rom : List ℕ) (m-small : (i : ℕ) → get_or m i 0 < 256) (rom-sm
   kept_small blocks c z n = go (slice_address blocks c n z)
     where
       go : (at : Address) → byte_from m at < 256
-      go Illegal = omega arith
-      go NotFitted = omega arith
-      go (Fitted p) = m-small p
+      go (Err why) = omega arith
+      go (Ok p) = m-small p
 
   from_small : (blocks c : ℕ) (source : Source) (n : ℕ) → slice_from blocks m rom c source n < 256
   unfolding rom_slice

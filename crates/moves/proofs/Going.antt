@@ -1,10 +1,6 @@
 -- The next X and the next Y as the code works them out, and what they leave.
 -- Assumes nothing.
-use Prim.Native.Nat.{ℕ, ◌+◌, ◌-◌, ◌%◌}
-use mathlib.Core.Path.{◌≡◌}
-use mathlib.Core.Bool.{Bool, true, false}
-use mathlib.Core.List.{List}
-use native.Mathlib.Omega.{arith}
+use Rattle.std.proofs.Common.{ℕ, ◌+◌, ◌-◌, ◌%◌, ◌≡◌, Bool, true, List, arith}
 use lib.Dec.{eqb}
 use lib.ListN.{set}
 use lib.Seq.{get_or-set_other}
@@ -50,25 +46,17 @@ down_on_page registers h =
     pick_either BothOnPage (is_last (main_x registers)) (set registers 6 y) registers
     (rw (get_or-set_other registers 6 5 y 0 (λ e. omega arith), get_or-set_other registers 6 7 y 0 (λ e. omega arith)) h) h
 
--- where X does not pass 39, and where it does
-pub not_down : (registers : List ℕ) → (main_x registers % 64 ≡ 39 → ⊥) → registers ≡ down registers
-unfolding down
-not_down registers n = rw (low_six (main_x registers), ne_eqb _ _ n)
-
+-- where X passes 39
 pub went_down : (registers : List ℕ) → main_x registers % 64 ≡ 39 → set registers 6 (next_y (main_y registers)) ≡ down registers
 unfolding down
 went_down registers e = rw (low_six (main_x registers), eq-eqb _ _ e)
 
--- whether a move ends
-module _ (stops : Bool) (registers : List ℕ) where
-  pub no_stop : stops ≡ false → false ≡ is_end stops registers
+-- whether a move with a stop ends: by the auxiliary pointer's X, or else by the main pointer's
+module _ (stops : Bool) (registers : List ℕ) (e : stops ≡ true) where
+  pub ends_auxiliary : auxiliary_x registers % 64 ≡ 39 → eqb (auxiliary_x registers % 64) 39 ≡ is_end stops registers
   unfolding is_end
-  no_stop e = rw e
+  ends_auxiliary x = rw (e, low_six (auxiliary_x registers), eq-eqb _ _ x)
 
-  pub ends_auxiliary : stops ≡ true → auxiliary_x registers % 64 ≡ 39 → true ≡ is_end stops registers
+  pub ends_main : (auxiliary_x registers % 64 ≡ 39 → ⊥) → eqb (main_x registers % 64) 39 ≡ is_end stops registers
   unfolding is_end
-  ends_auxiliary e x = rw (e, low_six (auxiliary_x registers), eq-eqb _ _ x)
-
-  pub ends_main : stops ≡ true → (auxiliary_x registers % 64 ≡ 39 → ⊥) → eqb (main_x registers % 64) 39 ≡ is_end stops registers
-  unfolding is_end
-  ends_main e x = rw (e, low_six (auxiliary_x registers), ne_eqb _ _ x, low_six (main_x registers))
+  ends_main x = rw (e, low_six (auxiliary_x registers), ne_eqb _ _ x, low_six (main_x registers))

@@ -12,10 +12,9 @@ use Rattle.basics.specs.Below.{any_below}
 use Rattle.basics.specs.Parts.{joined, table}
 use Rattle.basics.proofs.Below.{any_not, any_same, any_never}
 use Rattle.basics.proofs.Choice.{lt_or_le}
-use Rattle.address.specs.Addresses.{address_of, is_illegal, is_not_fitted, some_address}
+use Rattle.address.specs.Addresses.{Address, address_of, is_illegal, is_not_fitted, some_address}
 use Rattle.address.specs.Places.{block_at}
 use Rattle.address.specs.Triples.{legal, legal_in}
-use Rattle.address.specs.declared.answer.Address.{Address}
 use Rattle.address.specs.declared.triple.Triple.{Triple}
 use Rattle.address.proofs.Addresses.{illegal_test, bare_test}
 use Rattle.address.proofs.Fits.{address_legal, legal_address}

@@ -2,10 +2,9 @@
 -- Assumes nothing.
 use Rattle.std.specs.Prelude.{ℕ, Bool, not, List}
 use Rattle.basics.specs.Parts.{table}
-use Rattle.address.specs.Addresses.{address_of}
+use Rattle.address.specs.Addresses.{Address, address_of}
 use Rattle.address.specs.Places.{block_at}
 use Rattle.address.specs.Triples.{fitted}
-use Rattle.address.specs.declared.answer.Address.{Address}
 use Rattle.address.specs.declared.triple.Triple.{Triple}
 
 -- 1, 2 or 3 bytes at X, Y in blocks Z, Z+1, Z+2, each counted modulo 4 inside its district

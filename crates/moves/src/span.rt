@@ -3,6 +3,7 @@ ghost use Rattle.std.specs.Prelude.{◌≡◌};
 ghost use Rattle.moves.specs.Spans.{is_bare_in};
 ghost use Rattle.basics.specs.Below.{any_below};
 
+use address::fitted::has_district;
 use address::place::block;
 use address::triple::Triple;
 
@@ -10,14 +11,12 @@ use address::triple::Triple;
 pub fn is_bare(blocks: u8, at: Triple, bytes: u8) -> bool
     ensures { result ≡ any_below (is_bare_in blocks at) bytes }
 {
-    if at.z / 4 * 4 + 3 < blocks {
+    if has_district(blocks, at.z) {
         return false;
     }
     let mut bare = false;
-    let mut k = 0u8;
-    while k < bytes {
-        bare = bare | (blocks <= block(at.z, k));
-        k += 1;
+    for k in 0..bytes {
+        bare |= blocks <= block(at.z, k);
     }
     bare
 }

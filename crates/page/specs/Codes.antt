@@ -2,10 +2,9 @@
 -- Assumes nothing.
 use Rattle.std.specs.Prelude.{ℕ, List, [], ◌∷◌}
 use Rattle.basics.specs.Parts.{table}
-use Rattle.address.specs.Addresses.{address_of, byte_from}
+use Rattle.address.specs.Addresses.{Address, address_of, byte_from}
 use Rattle.address.specs.Places.{block_of}
 use Rattle.address.specs.Rows.{row_y}
-use Rattle.address.specs.declared.answer.Address.{Address}
 use Rattle.shown.specs.declared.Shown.{Shown}
 use Rattle.shown.specs.Origins.{yor_of, first_block}
 

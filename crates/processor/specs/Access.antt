@@ -3,9 +3,8 @@
 use Rattle.std.specs.Prelude.{ℕ, Bool, true, false, ◌&&◌, List, [], ◌++◌, leb, eqb, length, Option, Some, None, is_none, Result, Ok, Err}
 use Rattle.basics.specs.Choice.{pick}
 use Rattle.basics.specs.Bits.{bits, is_set}
-use Rattle.address.specs.Addresses.{is_illegal, is_not_fitted, byte_addresses, code_addresses, narrow_addresses, some_address}
+use Rattle.address.specs.Addresses.{Address, is_illegal, is_not_fitted, byte_addresses, code_addresses, narrow_addresses, some_address}
 use Rattle.board.specs.Boards.{bytes_of}
-use Rattle.address.specs.declared.answer.Address.{Address}
 use Rattle.command.specs.declared.Command as command
 use Rattle.command.specs.declared.answer.Refusal.{Refusal}
 use Rattle.command.specs.declared.answer.Refusal.TheVariants.{WrongMemory, WrongAddress, NotListed, BadPointer, WrongPhase, Busy, NotFitted}

@@ -11,10 +11,9 @@ use lib.ListN.{set}
 use lib.Seq.{get_or-set_other, set-get_or, set-set}
 use Rattle.basics.proofs.Choice.{bool_cases, and_both, or_left, or_right}
 use Rattle.basics.proofs.Below.{any_hit, any_same}
-use Rattle.address.specs.Addresses.{byte_from, is_at}
+use Rattle.address.specs.Addresses.{Address, byte_from, is_at}
 use Rattle.address.specs.Places.{byte_at}
-use Rattle.address.specs.declared.answer.Address.{Address}
-use Rattle.address.specs.declared.answer.Address.TheVariants.{Illegal, NotFitted, Fitted}
+use Rattle.std.proofs.Common.{Ok, Err}
 use Rattle.shown.specs.declared.Shown.{Shown}
 use Rattle.shown.specs.Modes.{is_eighty}
 use Rattle.page.specs.Codes.{code_address, code_at}
@@ -24,9 +23,8 @@ use Rattle.reading.specs.Agreeing.{Agree, AgreeOnList}
 
 -- what is taken at an address whose place passes is the same in two memories that agree on what passes
 pub taken_same : (f : ℕ → Bool) (m n : List ℕ) → Agree f m n → (a : Address) → ((p : ℕ) → is_at p a ≡ true → f p ≡ true) → byte_from m a ≡ byte_from n a
-taken_same f m n agree Illegal h = refl
-taken_same f m n agree NotFitted h = refl
-taken_same f m n agree (Fitted p) h = agree p (h p (eq-eqb p p refl))
+taken_same f m n agree (Err why) h = refl
+taken_same f m n agree (Ok p) h = agree p (h p (eq-eqb p p refl))
 
 -- a row holds the three bytes of each of its cells that are fitted
 module _ (shown : Shown) (r x p : ℕ) (l : x < 40) where

@@ -1,8 +1,5 @@
-use Rattle.moves.proofs.Going.{not_down, went_down}
+use Rattle.moves.proofs.Going.{went_down}
 use Rattle.moves.proofs.onward.down.Goals as goal
 
-pub returns-then-registers-ne39 : goal.returns-then-registers-ne39
-returns-then-registers-ne39 c = not_down _ c.if-registers-ne39.true
-
-pub returns : goal.returns
-returns c = rw c.next_y-y.ensures (went_down _ c.if-registers-ne39.false)
+pub returns-then-registers-eq39 : goal.returns-then-registers-eq39
+returns-then-registers-eq39 c = rw c.next_y.ensures (went_down _ c.if-registers-eq39.true)

@@ -6,9 +6,5 @@ pub returns-then-stops : goal.returns-then-stops
 unfolding onward
 returns-then-stops c = rw c.if-stops.true c.across.ensures
 
-pub across-requires-2 : goal.across-requires-2
-across-requires-2 c = rw c.down.ensures (down_on_page _ c.requires)
-
-pub returns : goal.returns
-unfolding onward
-returns c = rw (c.if-stops.false, ← c.down.ensures) c.across-2.ensures
+pub across-requires-else-stops : goal.across-requires-else-stops
+across-requires-else-stops c = rw c.down.ensures (down_on_page _ c.requires)

@@ -1,18 +1,14 @@
+use Rattle.std.proofs.Common.{sym, ◌∙◌}
+use borrow.Author.Tests.{ltb-true}
+use Rattle.basics.proofs.Below.{any_none, gathered}
 use Rattle.moves.proofs.Spans.{bare_as, none_bare}
-use Rattle.basics.proofs.Below.{any_none, gathered, gathered_end}
-use native.Mathlib.Omega.{arith}
-use mathlib.Core.Path.{sym}
 use Rattle.moves.proofs.span.is_bare.Goals as goal
 
-pub returns-then-at-blocks : goal.returns-then-at-blocks
-returns-then-at-blocks c = let a = c.args in none_bare a.blocks a.at a.bytes c.if-at-blocks.true
-
 pub loop-k-init : goal.loop-k-init
-loop-k-init c = (omega arith, sym (any_none _))
+loop-k-init c = sym (any_none _)
 
 pub loop-k-preserved : goal.loop-k-preserved
-loop-k-preserved c = let l = c.loop-k in
-    (omega arith, gathered _ _ _ _ l.invariant.1 (bare_as _ c.args.at _ _ c.block.ensures))
+loop-k-preserved c = gathered _ _ _ _ c.loop-k.invariant (bare_as _ c.args.at _ _ c.block.ensures)
 
-pub returns : goal.returns
-returns c = let l = c.loop-k in gathered_end _ _ _ _ l.invariant.1 l.invariant.0 c.loop-k-test.false
+pub returns-then-has_district : goal.returns-then-has_district
+returns-then-has_district c = none_bare _ c.args.at _ (ltb-true _ _ (sym c.has_district.ensures ∙ c.if-has_district.true))
