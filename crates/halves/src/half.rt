@@ -4,9 +4,11 @@ ghost use Rattle.basics.specs.Below.{any_below};
 ghost use Rattle.basics.specs.Parts.{table};
 ghost use Rattle.basics.specs.Choice.{pick};
 ghost use Rattle.board.specs.Boards.{bytes_of};
+ghost use Rattle.address.specs.Rows.{row_y};
+ghost use Rattle.shown.specs.Origins.{yor_of, first_block};
 ghost use Rattle.page.specs.Codes.{row_buffer};
 ghost use Rattle.page.specs.Halves.{is_wide, same_code, goes_on, lower_halves};
-ghost use Rattle.halves.specs.Above.{KnownAbove, next_lower_on};
+ghost use Rattle.halves.specs.Above.{ComparedFrom, KnownAbove, next_lower_on};
 ghost use Rattle.page.specs.HowCodes.{code_of, is_fitted, Has};
 ghost use Rattle.page.specs.HowHalves.{Within, right_in, goes_on_at, next_lower_at};
 
@@ -72,6 +74,18 @@ fn third_of(shown: Shown) -> u8
     if is_fitted(shown, 2) { 2 } else { 0 }
 }
 
+// Where the bytes start by which the cells of a stretch of a screen row are compared.
+fn row_starts(shown: Shown, row: u8, first: u16) -> Starts
+    ensures { ComparedFrom (first_block shown) (row_y (yor_of shown) row) first (pick (is_fitted shown 2) 2 0) result }
+{
+    compared_by(
+        shown.first_block(),
+        row_y(shown.yor(), row),
+        first,
+        third_of(shown),
+    )
+}
+
 // Some cell of a row goes on from the cell above it. Where no B byte is fitted, no cell is of double height.
 fn some_go_on(memory: &[u8], shown: Shown, row: u8) -> bool
     requires { (length memory.now ≡ bytes_of shown.blocks) × (0 < row) }
@@ -107,24 +121,19 @@ fn next_lowers(memory: &[u8], shown: Shown, row: u8, mut halves: [bool; 40]) -> 
     if !is_fitted(shown, 1) {
         return [false; 40];
     }
-    let third = third_of(shown);
-    let z = shown.first_block();
-    let y = row_y(shown.yor(), row);
-    let above = row_y(shown.yor(), row - 1);
-    let part = shown.part;
     put_next(
         &mut halves[..32],
-        part,
+        shown.part,
         memory,
-        compared_by(z, y, 0, third),
-        compared_by(z, above, 0, third),
+        row_starts(shown, row, 0),
+        row_starts(shown, row - 1, 0),
     );
     put_next(
         &mut halves[32..],
-        part,
+        shown.part,
         memory,
-        compared_by(z, y, 32, third),
-        compared_by(z, above, 32, third),
+        row_starts(shown, row, 32),
+        row_starts(shown, row - 1, 32),
     );
     halves
 }
