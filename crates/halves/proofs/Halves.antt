@@ -7,8 +7,8 @@ use mathlib.Core.List.{List, [], ◌∷◌, ◌++◌, append_assoc, append-nil}
 use mathlib.Core.Logic.{◌⊎◌, inl, inr, ⊎_elim}
 use native.Mathlib.Omega.{arith}
 use lib.Dec.{eqb}
-use lib.ListN.{length, get_or, take, drop, drop_of_length-le}
-use lib.Seq.{take_at, drop_at, drop-drop, take-suc, take_all, get_or-drop, get_or-append-add}
+use lib.ListN.{length, get_or, take, drop, length-append, length-drop, drop_of_length-le}
+use lib.Seq.{take_at, drop_at, drop-drop, take-suc, take_all, length-take-le, get_or-take, get_or-drop, get_or-append-add}
 use borrow.Rule.Slice.PartMut.{put_mid}
 use lib.Pointwise.{pointwise}
 use Rattle.basics.specs.Below.{any_below}
@@ -219,6 +219,36 @@ stretch_next m z t fit part y u halves old new first n column side here above eh
     ∙ table_same _ _ n
     (λ i l. ap₂ (λ (on half : Bool). on && not half) (compared_on m z t fit part first i (omega (arith, l)) (omega (arith, l)) y u here above eh ea) (same i l))
 
+-- a part of forty halves that is put anew: how long it is, and where its halves stand
+pub record PartOf (halves old : List Bool) (first n : ℕ) : Type 0 where
+  pub long : length old ≡ n
+  pub same : (i : ℕ) → i < n → get_or old i false ≡ get_or halves (first + i) false
+
+pub left_part : (halves : List Bool) → length halves ≡ 40 → PartOf halves (take 32 halves) 0 32
+left_part halves h =
+    record {
+      long = length-take-le 32 halves (omega (arith, h));
+      same = λ i l. get_or-take 32 halves i false l ∙ ap (λ (k : ℕ). get_or halves k false) (omega arith);
+    }
+
 -- the right 8, behind the left 32 that are put
-pub right_left : (xs left : List Bool) → length xs ≡ 40 → length left ≡ 32 → take 8 (drop 32 (left ++ drop 32 xs)) ≡ take 8 (drop 32 xs)
-right_left xs left h long = ap (take 8) (drop_at left (drop 32 xs) 32 long)
+pub record RightPart (halves left : List Bool) : Type 0 where
+  pub whole : length (left ++ drop 32 halves) ≡ 40
+  pub part : PartOf halves (take 8 (drop 32 (left ++ drop 32 halves))) 32 8
+
+pub right_part :
+    (halves left : List Bool) (f : ℕ → Bool) → length halves ≡ 40 → left ≡ table f (length (take 32 halves)) → RightPart halves left
+right_part halves left f h e =
+    record {
+      whole = length-append left (drop 32 halves) ∙ rw (long, length-drop 32 halves) (omega (arith, h));
+      part = record {
+        long = rw there (length-take-le 8 (drop 32 halves) (rw (length-drop 32 halves) (omega (arith, h))));
+        same = λ i l. ap (λ (z : List Bool). get_or z i false) there ∙ get_or-take 8 (drop 32 halves) i false l ∙ get_or-drop 32 halves i false;
+      };
+    }
+  where
+    long : length left ≡ 32
+    long = ap length e ∙ length_table f _ ∙ length-take-le 32 halves (omega (arith, h))
+
+    there : take 8 (drop 32 (left ++ drop 32 halves)) ≡ take 8 (drop 32 halves)
+    there = ap (take 8) (drop_at left (drop 32 halves) 32 long)

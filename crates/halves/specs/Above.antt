@@ -3,10 +3,15 @@
 -- Assumes nothing.
 use Rattle.std.specs.Prelude.{ℕ, ◌-◌, ◌<◌, ◌≡◌, Bool, false, not, ◌&&◌, List, Option, Some, get_or}
 use Rattle.board.specs.declared.Part.{Part}
+use Rattle.address.specs.Places.{place_of, block_of}
 use Rattle.shown.specs.declared.Shown.{Shown}
 use Rattle.page.specs.Halves.{is_tall, goes_on, lower_halves}
 use Rattle.page.specs.HowHalves.{stretch_code}
 use Rattle.page.specs.declared.stretch.Starts.{Starts}
+
+-- where the bytes start by which the cells of a stretch of the row at y are compared, from column `first` on: their C, their B and the page's block t
+abbrev pub ComparedFrom : ℕ → ℕ → ℕ → ℕ → Starts → Type 0
+ComparedFrom z y first t s = (s.c ≡ place_of first y (block_of z 0)) × (s.b ≡ place_of first y (block_of z 1)) × (s.a ≡ place_of first y (block_of z t))
 
 -- the lower half of cell i of a stretch
 abbrev pub next_lower_on : Part → List ℕ → Starts → Starts → List Bool → ℕ → Bool

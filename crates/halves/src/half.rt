@@ -3,9 +3,11 @@ ghost use Rattle.std.specs.Prelude.{◌≡◌, ◌<◌, length};
 ghost use Rattle.basics.specs.Below.{any_below};
 ghost use Rattle.basics.specs.Parts.{table};
 ghost use Rattle.basics.specs.Choice.{pick};
+ghost use Rattle.address.specs.Rows.{row_y};
+ghost use Rattle.shown.specs.Origins.{yor_of, first_block};
 ghost use Rattle.page.specs.Codes.{row_buffer};
 ghost use Rattle.page.specs.Halves.{is_wide, same_code, goes_on, lower_halves};
-ghost use Rattle.halves.specs.Above.{KnownAbove, next_lower_on};
+ghost use Rattle.halves.specs.Above.{ComparedFrom, KnownAbove, next_lower_on};
 ghost use Rattle.page.specs.HowCodes.{code_of, is_fitted, Has};
 ghost use Rattle.page.specs.HowHalves.{Within, right_in, goes_on_at, next_lower_at};
 
@@ -51,15 +53,14 @@ fn has_wide(memory: &[u8], z: u8, y: u8) -> bool
 
 // The right halves of a screen row. Where it has no cell of double width there is nothing to ask: so where no B byte is fitted.
 pub fn right_halves_of(page: &Page, row: u8, cells: [[u8; 3]; 40]) -> [bool; 40]
-    requires { (cells ≡ row_buffer page.now.shown page.now.memory.now row) }
+    requires { cells ≡ row_buffer page.now.shown page.now.memory.now row }
     ensures { result ≡ table (right_in cells) 40 }
 {
     if !is_fitted(page.shown, 1) {
         return [false; 40];
     }
-    let shown = page.shown;
-    let z = shown.first_block();
-    let y = row_y(shown.yor(), row);
+    let z = page.shown.first_block();
+    let y = row_y(page.shown.yor(), row);
     if has_wide(page.memory, z, y) {
         return right_halves(cells);
     }
@@ -73,9 +74,21 @@ fn third_of(shown: Shown) -> u8
     if is_fitted(shown, 2) { 2 } else { 0 }
 }
 
+// Where the bytes start by which the cells of a stretch of a screen row are compared.
+fn row_starts(shown: Shown, row: u8, first: u16) -> Starts
+    ensures { ComparedFrom (first_block shown) (row_y (yor_of shown) row) first (pick (is_fitted shown 2) 2 0) result }
+{
+    compared_by(
+        shown.first_block(),
+        row_y(shown.yor(), row),
+        first,
+        third_of(shown),
+    )
+}
+
 // Some cell of a row goes on from the cell above it. Where no B byte is fitted, no cell is of double height.
 fn some_go_on(page: &Page, row: u8) -> bool
-    requires { (0 < row) }
+    requires { 0 < row }
     ensures { result ≡ any_below (goes_on_at page.now.shown page.now.memory.now row) 40 }
 {
     if !is_fitted(page.shown, 1) {
@@ -103,31 +116,25 @@ fn put_next(halves: &mut [bool], part: Part, memory: &[u8], here: Starts, above:
 
 // The lower halves of a row, from those of the row above.
 fn next_lowers(page: &Page, row: u8, mut halves: [bool; 40]) -> [bool; 40]
-    requires { (0 < row) }
+    requires { 0 < row }
     ensures { result ≡ table (next_lower_at page.now.shown page.now.memory.now row halves) 40 }
 {
     if !is_fitted(page.shown, 1) {
         return [false; 40];
     }
-    let shown = page.shown;
-    let third = third_of(shown);
-    let z = shown.first_block();
-    let y = row_y(shown.yor(), row);
-    let above = row_y(shown.yor(), row - 1);
-    let part = shown.part;
     put_next(
         &mut halves[..32],
-        part,
+        page.shown.part,
         page.memory,
-        compared_by(z, y, 0, third),
-        compared_by(z, above, 0, third),
+        row_starts(page.shown, row, 0),
+        row_starts(page.shown, row - 1, 0),
     );
     put_next(
         &mut halves[32..],
-        part,
+        page.shown.part,
         page.memory,
-        compared_by(z, y, 32, third),
-        compared_by(z, above, 32, third),
+        row_starts(page.shown, row, 32),
+        row_starts(page.shown, row - 1, 32),
     );
     halves
 }

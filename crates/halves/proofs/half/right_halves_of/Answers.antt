@@ -3,7 +3,6 @@ use Rattle.halves.proofs.Halves.{right_none, right_bare}
 use Rattle.page.proofs.Codes.{has_block}
 use mathlib.Core.Path.{sym, ◌∙◌}
 use Rattle.address.proofs.Laws.{row_small}
-use borrow.Author.Rules.{rules}
 use Rattle.halves.proofs.half.right_halves_of.Goals as goal
 
 pub returns-then-not-is_fitted : goal.returns-then-not-is_fitted

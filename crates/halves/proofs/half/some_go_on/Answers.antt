@@ -5,7 +5,6 @@ use native.Mathlib.Omega.{arith}
 use mathlib.Core.Path.{sym, ap, ◌∙◌}
 use Prim.Native.Nat.{ℕ, ◌-◌}
 use Rattle.address.specs.Rows.{row_y}
-use borrow.Author.Rules.{rules}
 use Rattle.halves.proofs.half.some_go_on.Goals as goal
 
 pub returns-then-not-is_fitted : goal.returns-then-not-is_fitted
