@@ -9,6 +9,7 @@ use board::Part;
 use cell::decode::last_bichrome;
 use page::code::row_buffer;
 use shown::Shown;
+use shown::page::Page;
 
 // A column by its C, B and A: in 80 columns one of its two cells flashes, in 40 its one.
 fn column_flashes(part: Part, eighty: bool, c: u8, b: u8, a: u8) -> bool
@@ -28,7 +29,7 @@ fn row_flashes(memory: &[u8], shown: Shown, row: u8) -> bool
 {
     let part = shown.part;
     let eighty = shown.is_eighty();
-    let cells = row_buffer(memory, shown, row);
+    let cells = row_buffer(&Page { memory, shown }, row);
     let mut found = false;
     for x in 0..40 {
         let code = cells[x];

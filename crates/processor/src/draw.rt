@@ -8,6 +8,7 @@ use crate::state::Processor;
 use board::bytes_of;
 use command::answer::{DrawRefusal, Drawing};
 use picture::redraw::redraw;
+use shown::page::{Page, Scene};
 
 // The state after a draw, with the answer.
 #[derive(Clone, Copy)]
@@ -45,7 +46,11 @@ fn redrawn(p: Processor, memory: &[u8], rom: &[u8], picture: &mut [u8]) -> Drawi
     if shown.is_refused_8() {
         return Err(DrawRefusal::LowOrigin);
     }
-    Ok(redraw(picture, memory, rom, shown, p.marks))
+    let scene = Scene {
+        page: Page { memory, shown },
+        rom,
+    };
+    Ok(redraw(picture, &scene, p.marks))
 }
 
 impl Processor {
