@@ -1,7 +1,7 @@
 // The two kinds of cell, and what each carries.
 use colour::Colour;
 
-#[derive(Clone, Copy)]
+#[derive(Clone, Copy, Debug, PartialEq, Eq)]
 pub enum Set {
     G0,
     G10,
@@ -18,14 +18,14 @@ pub enum Set {
     Q(u8),
 }
 
-#[derive(Clone, Copy)]
+#[derive(Clone, Copy, Debug, PartialEq, Eq)]
 pub enum Resolution {
     High,
     // K.
     Low(u8),
 }
 
-#[derive(Clone, Copy)]
+#[derive(Clone, Copy, Debug, PartialEq, Eq)]
 pub struct BichromeCell {
     pub character: u8,
     pub set: Set,
@@ -41,7 +41,7 @@ pub struct BichromeCell {
     pub background: Colour,
 }
 
-#[derive(Clone, Copy)]
+#[derive(Clone, Copy, Debug, PartialEq, Eq)]
 pub struct QuadrichromeCell {
     pub character: u8,
     // B5..3; DOR 7 is the block's highest bit.
@@ -50,7 +50,7 @@ pub struct QuadrichromeCell {
     pub palette: u8,
 }
 
-#[derive(Clone, Copy)]
+#[derive(Clone, Copy, Debug, PartialEq, Eq)]
 pub enum Cell {
     Bichrome(BichromeCell),
     Quadrichrome(QuadrichromeCell),

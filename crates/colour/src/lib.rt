@@ -6,7 +6,7 @@ pub mod palette;
 ghost use Rattle.std.specs.Prelude.{◌≡◌};
 ghost use Rattle.colour.specs.Colours.{colour_of, nibble_of, packed_of};
 
-#[derive(Clone, Copy)]
+#[derive(Clone, Copy, Debug, PartialEq, Eq)]
 pub struct Colour(pub u8);
 
 impl Colour {

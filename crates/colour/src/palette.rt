@@ -20,7 +20,7 @@ pub fn rank(palette: u8, colour: Colour) -> u32
     ensures { result ≡ rank_of palette colour }
 {
     let k = colour.nibble();
-    u8::count_ones(palette % (1 << k))
+    (palette % (1 << k)).count_ones()
 }
 
 // The colours of ranks 0 to 3, in one pass over the palette from its highest bit down. A colour of one of these ranks comes before all that
@@ -30,14 +30,10 @@ pub fn by_rank(palette: u8) -> [Colour; 4]
     ensures { result ≡ table (colour_of_rank palette) 4 }
 {
     let mut colours = [Colour::WHITE; 4];
-    let mut k = 8;
-    while k > 0 {
-        k -= 1;
+    for k in (0..8).rev() {
         let colour = Colour::from_number(k);
-        if has(palette, colour) {
-            if rank(palette, colour) < 4 {
-                colours = [colour, colours[0], colours[1], colours[2]];
-            }
+        if has(palette, colour) && rank(palette, colour) < 4 {
+            colours = [colour, colours[0], colours[1], colours[2]];
         }
     }
     colours

@@ -11,13 +11,7 @@ pub fn slice_of_twenty(alphanumeric: bool, line: u8) -> u8
     requires { line < 20 }
     ensures { result ≡ slice_of_twenty alphanumeric line }
 {
-    if alphanumeric {
-        if line == 0 {
-            return 0;
-        }
-        return (line - 1) / 2;
-    }
-    line / 2
+    if alphanumeric { line.saturating_sub(1) / 2 } else { line / 2 }
 }
 
 // Line n of a bichrome cell, which shows its upper or its lower half.
@@ -28,12 +22,8 @@ pub fn bichrome_slice(cell: BichromeCell, lower: bool, n: u8) -> u8
     if !cell.tall {
         return n;
     }
-    let set = cell.set;
-    let alphanumeric = is_alphanumeric(set);
-    if lower {
-        return slice_of_twenty(alphanumeric, 10 + n);
-    }
-    slice_of_twenty(alphanumeric, n)
+    let line = if lower { 10 + n } else { n };
+    slice_of_twenty(is_alphanumeric(cell.set), line)
 }
 
 // Where the line shows slice 9 the cell's underline is.
@@ -42,12 +32,7 @@ pub fn is_underlined_on(cell: Cell, lower: bool, n: u8) -> bool
     ensures { result ≡ underlined_on cell lower n }
 {
     match cell {
-        Cell::Bichrome(b) => {
-            if b.underline {
-                return bichrome_slice(b, lower, n) == 9;
-            }
-            false
-        }
+        Cell::Bichrome(b) => b.underline && bichrome_slice(b, lower, n) == 9,
         Cell::Quadrichrome(_) => false,
     }
 }

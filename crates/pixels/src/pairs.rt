@@ -14,56 +14,36 @@ use shown::Shown;
 pub fn conceal(cell: BichromeCell, shown: Shown, bit: bool) -> bool
     ensures { result ≡ concealed cell shown bit }
 {
-    if cell.conceal {
-        if shown.pat / 8 % 2 == 1 {
-            return false;
-        }
-    }
-    bit
+    bit && !(cell.conceal && shown.pat / 8 % 2 == 1)
 }
 
 // The phase differs from the negative bit.
 fn differs(phase: u8, negative: bool) -> bool
     ensures { result ≡ not (eqb phase (one_if negative)) }
 {
-    if negative {
-        return phase != 1;
-    }
-    phase != 0
+    phase != u8::from(negative)
 }
 
 // Flash with PAT 6 makes it 0 when the phase differs from the negative bit.
 pub fn flash(cell: BichromeCell, shown: Shown, bit: bool) -> bool
     ensures { result ≡ flashed cell shown bit }
 {
-    if cell.flash {
-        if shown.pat / 64 % 2 == 1 {
-            if differs(shown.phase, cell.negative) {
-                return false;
-            }
-        }
-    }
-    bit
+    let flashes = cell.flash && shown.pat / 64 % 2 == 1;
+    bit && !(flashes && differs(shown.phase, cell.negative))
 }
 
 // Negative inverts it.
 pub fn invert(cell: BichromeCell, bit: bool) -> bool
     ensures { result ≡ inverted cell bit }
 {
-    if cell.negative {
-        return !bit;
-    }
-    bit
+    bit != cell.negative
 }
 
 // 1 is foreground, 0 background.
 pub fn ink(cell: BichromeCell, bit: bool) -> Colour
     ensures { result ≡ inked cell bit }
 {
-    if bit {
-        return cell.foreground;
-    }
-    cell.background
+    if bit { cell.foreground } else { cell.background }
 }
 
 // The colour of a pixel from its bit after underlining: the rest of the page's steps, in their order.
@@ -89,24 +69,11 @@ pub fn bichrome_pairs(cell: BichromeCell, shown: Shown) -> [u8; 4]
     ]
 }
 
-// Both pixels of a pair have one colour.
-fn both(colour: Colour) -> u8
-    ensures { result ≡ packed_of colour colour }
-{
-    packed(colour, colour)
-}
-
-// A pair for each rank, so that two bits of a slice need only be looked up.
+// A pair for each rank, both pixels of one colour, so that two bits of a slice need only be looked up.
 pub fn quadrichrome_pairs(palette: u8) -> [u8; 4]
     ensures { result ≡ quadrichrome_pairs palette }
 {
-    let colours = by_rank(palette);
-    [
-        both(colours[0]),
-        both(colours[1]),
-        both(colours[2]),
-        both(colours[3]),
-    ]
+    by_rank(palette).map(|colour| packed(colour, colour))
 }
 
 pub fn cell_pairs(cell: Cell, shown: Shown) -> [u8; 4]

@@ -1,12 +1,7 @@
-use Rattle.colour.proofs.Laws.{bit_at, ones_below}
+use Rattle.std.proofs.Common.{◌∙◌, refl, arith}
 use Rattle.colour.specs.Ranks.{rank_of}
-use lib.Pow.{pow_pos}
-use mathlib.Core.Path.{refl, ◌∙◌}
-use native.Mathlib.Omega.{arith}
+use Rattle.colour.proofs.Laws.{bit_at, ones_below}
 use Rattle.colour.proofs.palette.rank.Goals as goal
-
-pub nonzero_rem-result : goal.nonzero_rem-result
-nonzero_rem-result c = rw (bit_at c.nibble-k.result (omega arith)) (pow_pos c.nibble-k.result)
 
 pub returns : goal.returns
 unfolding rank_of
