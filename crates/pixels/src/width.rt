@@ -8,18 +8,12 @@ const DOUBLED: [u8; 16] = [
     0x00, 0x03, 0x0C, 0x0F, 0x30, 0x33, 0x3C, 0x3F, 0xC0, 0xC3, 0xCC, 0xCF, 0xF0, 0xF3, 0xFC, 0xFF,
 ];
 
-fn index(nibble: u8) -> usize
-    ensures { result ≡ nibble }
-{
-    nibble as usize
-}
-
 // The left half shows slice bits 0 to 3, the right half 4 to 7.
 pub fn doubled(right: bool, slice: u8) -> u8
     ensures { result ≡ from_bits (taken_bit true right slice) 8 }
 {
     if right {
-        return DOUBLED[index(slice / 16 % 16)];
+        return DOUBLED[(slice / 16 % 16) as usize];
     }
-    DOUBLED[index(slice % 16)]
+    DOUBLED[(slice % 16) as usize]
 }
