@@ -1,15 +1,15 @@
 -- The slices that the lines of a cell show, as the code puts them side by side, and how high they are.
 -- Assumes nothing.
 use Prim.Native.Nat.{ℕ, ◌+◌, ◌*◌, ◌/◌, ◌%◌, ◌<◌, ◌≤◌}
-use mathlib.Core.Path.{◌≡◌, refl, sym, ap, ap₂, ◌∙◌}
+use mathlib.Core.Path.{◌≡◌, refl, sym, ap, ◌∙◌}
 use mathlib.Core.Bool.{Bool, true, false}
-use mathlib.Core.List.{List, [], ◌∷◌}
+use mathlib.Core.List.{List}
 use mathlib.Core.Logic.{⊎_elim}
 use native.Mathlib.Omega.{arith}
 use lib.Dec.{eqb}
 use lib.ListN.{length, get_or}
 use borrow.Author.Tests.{eqb-true, eqb-false}
-use Rattle.basics.specs.Parts.{joined}
+use Rattle.basics.specs.Choice.{pick}
 use Rattle.basics.proofs.Choice.{bool_cases}
 use Rattle.basics.proofs.Parts.{table_same, table_of}
 use Rattle.cell.specs.declared.kind.BichromeCell.{BichromeCell}
@@ -19,7 +19,7 @@ use Rattle.cell.specs.declared.kind.Resolution.TheVariants.{High, Low}
 use Rattle.cell.specs.declared.kind.Cell.{Cell}
 use Rattle.cell.specs.declared.kind.Cell.TheVariants.{Bichrome, Quadrichrome}
 use Rattle.cell.specs.Cells.{alphanumeric_of}
-use Rattle.pixels.specs.Slices.{bichrome_slice, resolved_slice, quadrichrome_slice, slice_shown}
+use Rattle.pixels.specs.Slices.{slice_of_twenty, bichrome_slice, resolved_slice, quadrichrome_slice, slice_shown}
 use Rattle.pixels.proofs.Heights.{twenty_alphanumeric, twenty_other}
 use Rattle.slices.specs.HowSlices.{twenty_at, by_number}
 
@@ -30,20 +30,17 @@ half_most true false n l = omega (arith, twenty_alphanumeric n (omega arith))
 half_most false true n l = omega (arith, twenty_other (10 + n) (omega arith))
 half_most false false n l = omega (arith, twenty_other n (omega arith))
 
--- ten slices by name
-pub ten_listed :
-    (s : List ℕ) (number : ℕ → ℕ) {a b c d e f g h i j : ℕ}
-    → a ≡ get_or s (number 0) 0 → b ≡ get_or s (number 1) 0 → c ≡ get_or s (number 2) 0 → d ≡ get_or s (number 3) 0 → e ≡ get_or s (number 4) 0
-    → f ≡ get_or s (number 5) 0 → g ≡ get_or s (number 6) 0 → h ≡ get_or s (number 7) 0 → i ≡ get_or s (number 8) 0 → j ≡ get_or s (number 9) 0
-    → ◌≡◌ {A = List ℕ} (a ∷ b ∷ c ∷ d ∷ e ∷ f ∷ g ∷ h ∷ i ∷ j ∷ []) (by_number s number)
-unfolding joined
-ten_listed s number p0 p1 p2 p3 p4 p5 p6 p7 p8 p9 = rw (p0, p1, p2, p3, p4, p5, p6, p7, p8, p9)
+-- each is one of ten
+pub twenty_small : (a : Bool) (line slice : ℕ) → slice ≡ slice_of_twenty a line → line < 20 → slice < 10
+twenty_small true line slice e l = omega (arith, e, twenty_alphanumeric line l)
+twenty_small false line slice e l = omega (arith, e, twenty_other line l)
 
--- the slices of a half, from what the code asked before it chose them
-pub half_chosen :
-    (s ten : List ℕ) (alphanumeric lower a l : Bool)
-    → ten ≡ by_number s (twenty_at a l) → alphanumeric ≡ a → lower ≡ l → ten ≡ by_number s (twenty_at alphanumeric lower)
-half_chosen s ten alphanumeric lower a l p e f = p ∙ sym (ap₂ (λ x y. by_number s (twenty_at x y)) e f)
+-- the slice of a line of a half, from the half that the code asked for
+pub half_line :
+    (s : List ℕ) (a lower t : Bool) (n line slice : ℕ)
+    → lower ≡ t → line ≡ pick t (10 + n) n → slice ≡ slice_of_twenty a line → get_or s slice 0 ≡ get_or s (twenty_at a lower n) 0
+half_line s a lower t n line slice e l p =
+    ap (λ (i : ℕ). get_or s i 0) (p ∙ ap (slice_of_twenty a) (l ∙ sym (ap (λ (u : Bool). pick u (10 + n) n) e)))
 
 -- the slices that the lines of a bichrome cell show
 module _ (b : BichromeCell) (lower : Bool) (slices : List ℕ) where

@@ -5,47 +5,23 @@ ghost use Rattle.pixels.specs.Slices.{slice_shown};
 ghost use Rattle.slices.specs.HowSlices.{twenty_at, by_number, half_of};
 
 use board::Part;
+use pixels::height::slice_of_twenty;
+use std::array;
 
-// An alphanumeric's twenty lines give slice 0 three times, 1 to 8 twice and 9 once: its upper and its lower half.
-fn alphanumeric_upper(s: [u8; 10]) -> [u8; 10]
-    ensures { result ≡ by_number s (twenty_at true false) }
+// The slice that line n of a half of a double height cell shows.
+fn tall_slice(alphanumeric: bool, lower: bool, s: [u8; 10], n: u8) -> u8
+    requires { n < 10 }
+    ensures { result ≡ get_or s (twenty_at alphanumeric lower n) 0 }
 {
-    [s[0], s[0], s[0], s[1], s[1], s[2], s[2], s[3], s[3], s[4]]
-}
-
-fn alphanumeric_lower(s: [u8; 10]) -> [u8; 10]
-    ensures { result ≡ by_number s (twenty_at true true) }
-{
-    [s[4], s[5], s[5], s[6], s[6], s[7], s[7], s[8], s[8], s[9]]
-}
-
-// The others give each slice twice.
-fn other_upper(s: [u8; 10]) -> [u8; 10]
-    ensures { result ≡ by_number s (twenty_at false false) }
-{
-    [s[0], s[0], s[1], s[1], s[2], s[2], s[3], s[3], s[4], s[4]]
-}
-
-fn other_lower(s: [u8; 10]) -> [u8; 10]
-    ensures { result ≡ by_number s (twenty_at false true) }
-{
-    [s[5], s[5], s[6], s[6], s[7], s[7], s[8], s[8], s[9], s[9]]
+    let line = if lower { 10 + n } else { n };
+    s[slice_of_twenty(alphanumeric, line) as usize]
 }
 
 // The slices that ten of the twenty lines of a double height cell show.
 pub fn tall_slices(alphanumeric: bool, lower: bool, s: [u8; 10]) -> [u8; 10]
     ensures { result ≡ by_number s (twenty_at alphanumeric lower) }
 {
-    if alphanumeric {
-        if lower {
-            return alphanumeric_lower(s);
-        }
-        return alphanumeric_upper(s);
-    }
-    if lower {
-        return other_lower(s);
-    }
-    other_upper(s)
+    array::from_fn(|n| tall_slice(alphanumeric, lower, s, n as u8))
 }
 
 // Whether B below 192 names an alphanumeric set.
