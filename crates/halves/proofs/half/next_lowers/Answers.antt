@@ -27,9 +27,10 @@ pub put_next-requires : goal.put_next-requires
 put_next-requires c =
     let all = compared c.args.shown c.args.memory.now (search rules) _ _ refl (sym c.is_fitted.ensures ∙ c.if-not-is_fitted.false) refl in
     let left = left_part c.args.halves (search rules) in
-    rw left.long
-    (compared_fit c.args.memory.now _ _ all _ _ _ _ c.row_starts.ensures (row_small _ _) (omega arith) (omega arith),
-     compared_fit c.args.memory.now _ _ all _ _ _ _ c.row_starts-2.ensures (row_small _ _) (omega arith) (omega arith))
+    rw left.long (
+      compared_fit c.args.memory.now _ _ all _ _ _ _ c.row_starts.ensures (row_small _ _) (omega arith) (omega arith),
+      compared_fit c.args.memory.now _ _ all _ _ _ _ c.row_starts-2.ensures (row_small _ _) (omega arith) (omega arith),
+    )
 
 pub slice_bounds-halves-end-2 : goal.slice_bounds-halves-end-2
 slice_bounds-halves-end-2 c =
@@ -41,9 +42,10 @@ pub put_next-requires-2 : goal.put_next-requires-2
 put_next-requires-2 c =
     let all = compared c.args.shown c.args.memory.now (search rules) _ _ refl (sym c.is_fitted.ensures ∙ c.if-not-is_fitted.false) refl in
     let right = right_part c.args.halves c.put_next.new.halves _ (search rules) c.put_next.ensures in
-    rw right.part.long
-    (compared_fit c.args.memory.now _ _ all _ _ _ _ c.row_starts-3.ensures (row_small _ _) (omega arith) (omega arith),
-     compared_fit c.args.memory.now _ _ all _ _ _ _ c.row_starts-4.ensures (row_small _ _) (omega arith) (omega arith))
+    rw right.part.long (
+      compared_fit c.args.memory.now _ _ all _ _ _ _ c.row_starts-3.ensures (row_small _ _) (omega arith) (omega arith),
+      compared_fit c.args.memory.now _ _ all _ _ _ _ c.row_starts-4.ensures (row_small _ _) (omega arith) (omega arith),
+    )
 
 pub returns : goal.returns
 returns c =
