@@ -38,6 +38,7 @@ fn ink(eight: &[u8; 8], shown: Shown, e: usize) -> [u8; 4]
     ]
 }
 
+// Each byte's part is cut out by its place: the library's `chunks_exact_mut` does not say what the slice ends as.
 pub fn inks_of(shown: Shown) -> [u8; 512]
     ensures { result ≡ inks_of shown }
 {

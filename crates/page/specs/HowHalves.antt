@@ -1,13 +1,13 @@
 -- How the code asks for halves: of the row buffer along a row, of the bytes in memory down a column. Nothing here has to be believed:
 -- `right_row` and `lower_next` of crate halves show that it gives the halves of Halves.antt.
 -- Assumes nothing.
-use Rattle.std.specs.Prelude.{ℕ, ◌+◌, ◌-◌, ◌*◌, ◌<◌, ◌≤◌, ◌≡◌, Bool, true, false, not, ◌&&◌, List, [], ◌∷◌, ◌⊎◌, length, get_or}
+use Rattle.std.specs.Prelude.{ℕ, ◌+◌, ◌-◌, ◌*◌, ◌<◌, ◌≤◌, ◌≡◌, Bool, false, not, ◌&&◌, List, [], ◌∷◌, ◌⊎◌, length, get_or}
 use Rattle.board.specs.declared.Part.{Part}
 use Rattle.address.specs.Places.{block_of}
 use Rattle.shown.specs.declared.Shown.{Shown}
 use Rattle.page.specs.Codes.{code_at}
 use Rattle.page.specs.HowCodes.{code_of, Has}
-use Rattle.page.specs.Halves.{is_tall, is_wide, goes_on, second_half, lower_halves}
+use Rattle.page.specs.Halves.{is_tall, is_wide, goes_on, second_half}
 use Rattle.page.specs.declared.stretch.Starts.{Starts}
 
 -- the right half of a cell of a buffer
@@ -40,7 +40,3 @@ goes_on_at shown m r x = goes_on (is_tall shown.part (code_at shown m r x)) (cod
 
 abbrev pub next_lower_at : Shown → List ℕ → ℕ → List Bool → ℕ → Bool
 next_lower_at shown m r lowers x = goes_on_at shown m r x && not (get_or lowers x false)
-
--- where they are known, these are the lower halves of the row above row r
-abbrev pub KnownAbove : Shown → List ℕ → ℕ → Bool → List Bool → Type 0
-KnownAbove shown m r known lowers = known ≡ true → (0 < r) × (lowers ≡ lower_halves shown m (r - 1))
