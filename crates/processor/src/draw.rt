@@ -25,9 +25,9 @@ fn none_marked() -> [bool; 25]
     [false; 25]
 }
 
-// The marked rows are redrawn, unless 1, 5, 7, 6 or 8 refuses it, in this order.
+// The marked rows are redrawn, unless 1, 5, 7, 6 or 8 refuses it, in this order. Memory and ROM are lent for as long as one another, as the scene wants it.
 #[tactic(auto, unfolding(crate::specs::Draws::drawn, crate::specs::Draws::drawn_page))]
-fn redrawn(p: Processor, memory: &[u8], rom: &[u8], picture: &mut [u8]) -> Drawing
+fn redrawn<'a>(p: Processor, memory: &'a [u8], rom: &'a [u8], picture: &mut [u8]) -> Drawing
     ensures { MatchResult result
         (λ rows. draw_outcome (with_marks p none_marked) picture.new (Ok rows) ≡ drawn p memory.now rom.now picture.old)
         (λ refusal. draw_outcome p picture.new (Err refusal) ≡ drawn p memory.now rom.now picture.old) }
