@@ -1,34 +1,26 @@
--- Laws of the attributes that a bit decides, one for each way that the code takes. The bits are asked as numbers, so that arithmetic gives them.
+-- The law of flash, by the tests of the code.
 -- Assumes nothing.
-use mathlib.Core.Path.{◌≡◌, sym, ◌∙◌}
-use mathlib.Core.Bool.{Bool, true, false, not}
+use Rattle.std.proofs.Common.{ℕ, ◌/◌, ◌%◌, ◌≡◌, Bool, true, false, not, ◌&&◌, refl, arith}
 use lib.Dec.{eqb}
-use borrow.Author.Tests.{eq-eqb, ne_eqb}
-use Rattle.basics.specs.Choice.{one_if}
-use Rattle.basics.specs.Bits.{bit}
+use Rattle.basics.specs.Choice.{pick, one_if}
+use Rattle.basics.specs.Bits.{bit, is_set}
 use Rattle.shown.specs.declared.Shown.{Shown}
 use Rattle.cell.specs.declared.kind.BichromeCell.{BichromeCell}
-use Rattle.pixels.specs.Pixels.{concealed, flashed}
+use Rattle.pixels.specs.Pixels.{flashed}
 
-module _ (cell : BichromeCell) (shown : Shown) (b : Bool) where
-  pub conceal_hides : cell.conceal ≡ true → bit 3 shown.pat ≡ 1 → false ≡ concealed cell shown b
-  unfolding concealed
-  conceal_hides e h = rw (e, eq-eqb (bit 3 shown.pat) 1 h)
+hidden : (b f p d : Bool) → (b && not ((f && p) && d)) ≡ pick (f && (p && d)) false b
+hidden true true true true = refl
+hidden true true true false = refl
+hidden true true false d = refl
+hidden true false p d = refl
+hidden false true true true = refl
+hidden false true true false = refl
+hidden false true false d = refl
+hidden false false p d = refl
 
-  pub conceal_off : cell.conceal ≡ true → (bit 3 shown.pat ≡ 1 → ⊥) → b ≡ concealed cell shown b
-  unfolding concealed
-  conceal_off e n = rw (e, ne_eqb (bit 3 shown.pat) 1 n)
-
-  pub flash_off : cell.flash ≡ true → (bit 6 shown.pat ≡ 1 → ⊥) → b ≡ flashed cell shown b
-  unfolding flashed
-  flash_off e n = rw (e, ne_eqb (bit 6 shown.pat) 1 n)
-
-  -- the phase differs from the negative bit, or does not
-  module _ (differs : Bool) (learnt : differs ≡ not (eqb shown.phase (one_if cell.negative))) where
-    pub flash_hides : cell.flash ≡ true → bit 6 shown.pat ≡ 1 → differs ≡ true → false ≡ flashed cell shown b
-    unfolding flashed
-    flash_hides e h d = rw (e, eq-eqb (bit 6 shown.pat) 1 h, sym learnt ∙ d)
-
-    pub flash_shows : cell.flash ≡ true → bit 6 shown.pat ≡ 1 → differs ≡ false → b ≡ flashed cell shown b
-    unfolding flashed
-    flash_shows e h d = rw (e, eq-eqb (bit 6 shown.pat) 1 h, sym learnt ∙ d)
+pub flash_told :
+    (cell : BichromeCell) (shown : Shown) (b differs : Bool) → differs ≡ not (eqb shown.phase (one_if cell.negative))
+    → (b && not ((cell.flash && eqb (shown.pat / 64 % 2) 1) && differs)) ≡ flashed cell shown b
+unfolding flashed
+flash_told cell shown b differs e =
+    let six : shown.pat / 64 % 2 ≡ bit 6 shown.pat = omega arith in rw (six, e) (hidden b cell.flash (is_set 6 shown.pat) (not (eqb shown.phase (one_if cell.negative))))

@@ -21,9 +21,9 @@ pub double_left : (s : ℕ) → s < 256 → get_or doubled_table (s % 16) 0 ≡ 
 unfolding from_bits
 double_left = agree (λ s. get_or doubled_table (s % 16) 0) (λ s. from_bits (taken_bit true false s) 8) 256 tt
 
-pub double_right : (s : ℕ) → s < 256 → get_or doubled_table (s / 16 % 16) 0 ≡ from_bits (taken_bit true true s) 8
+pub double_right : (s : ℕ) → s < 256 → get_or doubled_table (s / 16) 0 ≡ from_bits (taken_bit true true s) 8
 unfolding from_bits
-double_right = agree (λ s. get_or doubled_table (s / 16 % 16) 0) (λ s. from_bits (taken_bit true true s) 8) 256 tt
+double_right = agree (λ s. get_or doubled_table (s / 16) 0) (λ s. from_bits (taken_bit true true s) 8) 256 tt
 
 all_set : from_bits (λ x. true) 8 ≡ 255
 unfolding from_bits

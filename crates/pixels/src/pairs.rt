@@ -11,6 +11,7 @@ use colour::{Colour, packed};
 use shown::Shown;
 
 // Conceal with PAT 3 makes a pixel's bit 0.
+#[tactic(auto, unfolding(crate::specs::Pixels::concealed))]
 pub fn conceal(cell: BichromeCell, shown: Shown, bit: bool) -> bool
     ensures { result ≡ concealed cell shown bit }
 {
@@ -28,11 +29,12 @@ fn differs(phase: u8, negative: bool) -> bool
 pub fn flash(cell: BichromeCell, shown: Shown, bit: bool) -> bool
     ensures { result ≡ flashed cell shown bit }
 {
-    let flashes = cell.flash && shown.pat / 64 % 2 == 1;
-    bit && !(flashes && differs(shown.phase, cell.negative))
+    let differs = differs(shown.phase, cell.negative);
+    bit & !(cell.flash & (shown.pat / 64 % 2 == 1) & differs)
 }
 
 // Negative inverts it.
+#[tactic(auto, unfolding(crate::specs::Pixels::inverted))]
 pub fn invert(cell: BichromeCell, bit: bool) -> bool
     ensures { result ≡ inverted cell bit }
 {
@@ -40,10 +42,15 @@ pub fn invert(cell: BichromeCell, bit: bool) -> bool
 }
 
 // 1 is foreground, 0 background.
+#[tactic(auto, unfolding(crate::specs::Pixels::inked))]
 pub fn ink(cell: BichromeCell, bit: bool) -> Colour
     ensures { result ≡ inked cell bit }
 {
-    if bit { cell.foreground } else { cell.background }
+    if bit {
+        cell.foreground
+    } else {
+        cell.background
+    }
 }
 
 // The colour of a pixel from its bit after underlining: the rest of the page's steps, in their order.
@@ -56,6 +63,7 @@ pub fn dye(cell: BichromeCell, shown: Shown, bit: bool) -> Colour
     )
 }
 
+#[tactic(auto, unfolding(crate::specs::HowPairs::bichrome_pairs, basics::specs::Parts::joined))]
 pub fn bichrome_pairs(cell: BichromeCell, shown: Shown) -> [u8; 4]
     ensures { result ≡ bichrome_pairs cell shown }
 {
@@ -69,11 +77,19 @@ pub fn bichrome_pairs(cell: BichromeCell, shown: Shown) -> [u8; 4]
     ]
 }
 
-// A pair for each rank, both pixels of one colour, so that two bits of a slice need only be looked up.
+// Both pixels of a pair have one colour.
+fn both(colour: Colour) -> u8
+    ensures { result ≡ packed_of colour colour }
+{
+    packed(colour, colour)
+}
+
+// A pair for each rank, so that two bits of a slice need only be looked up.
 pub fn quadrichrome_pairs(palette: u8) -> [u8; 4]
     ensures { result ≡ quadrichrome_pairs palette }
 {
-    by_rank(palette).map(|colour| packed(colour, colour))
+    let [first, second, third, fourth] = by_rank(palette);
+    [both(first), both(second), both(third), both(fourth)]
 }
 
 pub fn cell_pairs(cell: Cell, shown: Shown) -> [u8; 4]

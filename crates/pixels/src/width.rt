@@ -12,6 +12,9 @@ const DOUBLED: [u8; 16] = [
 pub fn doubled(right: bool, slice: u8) -> u8
     ensures { result ≡ from_bits (taken_bit true right slice) 8 }
 {
-    let nibble = if right { slice / 16 } else { slice % 16 };
-    DOUBLED[usize::from(nibble)]
+    if right {
+        DOUBLED[usize::from(slice / 16)]
+    } else {
+        DOUBLED[usize::from(slice % 16)]
+    }
 }
