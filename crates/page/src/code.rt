@@ -37,7 +37,7 @@ fn code_at(memory: &[u8], c: usize, b: usize, a: usize, at: usize) -> [u8; 3]
 }
 
 // Where a block starts.
-fn block_start(z: u8, k: u8) -> usize
+pub fn block_start(z: u8, k: u8) -> usize
     ensures { result ≡ 1024 * block_of z k }
 {
     1024 * block(z, k) as usize
