@@ -82,13 +82,7 @@ pub fn is_source(keys: Keys) -> bool
 pub fn some_changed(blocks: [u8; 3]) -> bool
     ensures { result ≡ some_changed blocks }
 {
-    if blocks[0] != 255 {
-        return true;
-    }
-    if blocks[1] != 255 {
-        return true;
-    }
-    blocks[2] != 255
+    (blocks[0] != 255) | ((blocks[1] != 255) | (blocks[2] != 255))
 }
 
 // Z is one of the three blocks of a page.
