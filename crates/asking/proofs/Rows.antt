@@ -5,41 +5,69 @@ use mathlib.Core.Path.{◌≡◌, refl, sym, ap, ap₂, ◌∙◌}
 use mathlib.Core.Bool.{Bool, true, false, not, ◌&&◌, ◌||◌, false≢true, and-false, or_assoc}
 use mathlib.Core.List.{List}
 use mathlib.Core.Logic.{⊎_elim}
-use native.Mathlib.Nat.{mul-one, mul-zero}
 use native.Mathlib.Omega.{arith}
 use lib.Dec.{ltb, leb, eqb}
-use mir.Val.{bool_byte}
-use lib.ListN.{length, get_or}
+use lib.ListN.{get_or}
 use borrow.Author.Tests.{ne_eqb, eqb-true, leb-true, le-leb, not-false}
 use Rattle.basics.specs.Bits.{bits, is_set}
-use Rattle.basics.specs.Choice.{pick}
 use Rattle.basics.specs.Below.{any_below}
 use Rattle.basics.proofs.Below.{any_not, any_same, any_never, any_split}
 use Rattle.basics.proofs.Computed.{agree_test}
-use Rattle.basics.proofs.Choice.{pick_either, bool_cases, lt_or_le, eq_or_ne, and_left, and_right, and_both, or_cases, or_none, or_neither}
+use Rattle.basics.proofs.Choice.{bool_cases, lt_or_le, eq_or_ne, and_left, and_right, and_both, or_cases, or_none, or_neither}
 use Rattle.address.specs.Places.{place_of, block_of}
 use Rattle.address.proofs.Laws.{place_left, place_service, place_right}
-use Rattle.address.proofs.Places.{place_within}
 use Rattle.board.specs.declared.Part.{Part}
 use Rattle.board.specs.declared.Part.TheVariants.{Ef9345, Ts9347}
 use Rattle.cell.specs.Cells.{is_quadrichrome}
 use Rattle.cell.specs.HowCells.{last_bichrome}
-use Rattle.page.specs.HowCodes.{code_of, Has}
+use Rattle.page.specs.HowCodes.{code_of}
 use Rattle.page.specs.Halves.{is_tall}
 use Rattle.page.specs.Inputs.{flashes}
 use Rattle.narrow.specs.Codes.{even_of, odd_of, pair_flashes}
 use Rattle.keys.specs.declared.key.Keys.{Keys}
 use Rattle.keys.specs.HowKeys.{keys_high, is_source, from_block, keyed}
-use Rattle.asking.specs.HowAsked.{shows_character, blinks, code_from, flash_at, blink_at, character_at, keyed_at}
-use Rattle.page.proofs.Stretches.{stretch_place, bichrome_test, tall_test, row_stretches}
+use Rattle.asking.specs.HowAsked.{shows_character, blinks, code_in, flash_at, blink_at, character_at, keyed_at}
+use Rattle.page.proofs.Stretches.{bichrome_test, tall_test, row_stretches}
 use Rattle.keys.proofs.Tests.{or_swap}
 
--- the code of cell i of a stretch within a row
-pub stretch_code_lem :
-    (first i : ℕ) → first + i < 40 → first % 32 + i < 32 → (m : List ℕ) (y z : ℕ) → code_from m z y first i ≡ code_of m z y (first + i)
-unfolding code_from code_of
-stretch_code_lem first i column side m y z =
-    rw (stretch_place first i column side y (block_of z 0), stretch_place first i column side y (block_of z 1), stretch_place first i column side y (block_of z 2))
+-- a byte of a cell stands at the same place of each block
+pub place_in : (x y b : ℕ) → 1024 * b + place_of x y 0 ≡ place_of x y b
+place_in x y b =
+    ⊎_elim
+    (λ l. omega (arith, place_left x y 0 l, place_left x y b l))
+    (λ l.
+    ⊎_elim
+    (λ e. omega (arith, place_service x y 0 l e, place_service x y b l e))
+    (λ n. omega (arith, place_right x y 0 l n, place_right x y b l n))
+    (eq_or_ne y 0))
+    (lt_or_le x 32)
+
+pub code_in_lem : (m : List ℕ) (z y x : ℕ) → code_in m z (place_of x y 0) ≡ code_of m z y x
+unfolding code_in code_of
+code_in_lem m z y x = rw (place_in x y (block_of z 0), place_in x y (block_of z 1), place_in x y (block_of z 2))
+
+-- its three bytes, from where their blocks start
+module _ (m : List ℕ) (z at start : ℕ) where
+  pub in_c : start ≡ 1024 * block_of z 0 → get_or m (start + at) 0 ≡ get_or (code_in m z at) 0 0
+  unfolding code_in
+  in_c e = rw e
+
+  pub in_b : start ≡ 1024 * block_of z 1 → get_or m (start + at) 0 ≡ get_or (code_in m z at) 1 0
+  unfolding code_in
+  in_b e = rw e
+
+  pub in_a : start ≡ 1024 * block_of z 2 → get_or m (start + at) 0 ≡ get_or (code_in m z at) 2 0
+  unfolding code_in
+  in_a e = rw e
+
+-- what is asked of the places of a row's cells is asked of the cells
+pub row_asked : (g : List ℕ → Bool) (m : List ℕ) (z y : ℕ) → any_below (λ x. g (code_in m z (place_of x y 0))) 40 ≡ any_below (λ x. g (code_of m z y x)) 40
+row_asked g m z y = any_same _ _ 40 (λ x l. ap g (code_in_lem m z y x))
+
+pub rows_asked :
+    (g : List ℕ → Bool) (m : List ℕ) (z y n : ℕ)
+    → any_below (λ k. any_below (λ x. g (code_in m z (place_of x (y + k) 0))) 40) n ≡ any_below (λ k. any_below (λ x. g (code_of m z (y + k) x)) 40) n
+rows_asked g m z y n = any_same _ _ n (λ k l. row_asked g m z (y + k))
 
 -- the C of a character of 80 columns, not of a mosaic
 text_test : (c : ℕ) → c < 256 → ltb c 128 ≡ not (is_set 7 c)
@@ -84,24 +112,10 @@ module _ (code : List ℕ) where
   unfolding blinks
   blink_test a e = rw e
 
-  -- of the B of a cell with the character, and of none, bit 7 is asked
-  pub character_test :
-      (c b t byte : ℕ) → c ≡ get_or code 0 0 → b ≡ get_or code 1 0 → byte ≡ pick (eqb (c % 128) t) b 0 → leb 128 byte ≡ shows_character t code
+  -- of the cell with the character, and of no other, bit 7 of its B is asked
+  pub character_test : (c b t : ℕ) → c ≡ get_or code 0 0 → b ≡ get_or code 1 0 → (eqb (c % 128) t && leb 128 b) ≡ shows_character t code
   unfolding shows_character
-  character_test c b t byte e f g = ap (leb 128) g ∙ high (eqb (c % 128) t) ∙ rw (e, f)
-    where
-      high : (fits : Bool) → leb 128 (pick fits b 0) ≡ (fits && leb 128 b)
-      high true = refl
-      high false = refl
-
-  pub keyed_test :
-      (c b : ℕ) (keys : Keys) → c ≡ get_or code 0 0 → b ≡ get_or code 1 0
-      → (eqb (c % 128) keys.character
-      && ((eqb (b / 32) keys.user0 || (eqb (b / 16) keys.user10 || eqb (b / 16) keys.user11))
-      || (eqb (b / 8) keys.quad0 || (eqb (b / 8) keys.quad1 || eqb (b / 8) keys.quad2))))
-      ≡ keyed keys code
-  unfolding from_block keyed
-  keyed_test c b keys e f = rw (e, f)
+  character_test c b t e f = rw (e, f)
 
   -- a cell that does not blink does not flash
   pub still_test : (part : Part) → blinks code ≡ false → flashes part code ≡ false
@@ -113,125 +127,92 @@ module _ (code : List ℕ) where
   unfolding blinks flashes
   blink_flashes = refl
 
--- a byte where it fits, by a product
-pub taken_made : (fits : Bool) (byte : ℕ) → byte * bool_byte fits ≡ pick fits byte 0
-taken_made true byte = mul-one byte
-taken_made false byte = mul-zero byte
-
-pub taken_small : (fits : Bool) (byte : ℕ) → byte < 256 → byte * bool_byte fits < 256
-taken_small fits byte l = rw (taken_made fits byte) (pick_either (λ (v : ℕ). v < 256) fits byte 0 l (omega arith))
-
--- the bytes of a stretch that may go over several rows
-module _ (m : List ℕ) (z y first i start : ℕ) where
-  pub from_c : start ≡ place_of first y (block_of z 0) → get_or m (start + i) 0 ≡ get_or (code_from m z y first i) 0 0
-  unfolding code_from
-  from_c e = rw e
-
-  pub from_b : start ≡ place_of first y (block_of z 1) → get_or m (start + i) 0 ≡ get_or (code_from m z y first i) 1 0
-  unfolding code_from
-  from_b e = rw e
-
-  pub from_a : start ≡ place_of first y (block_of z 2) → get_or m (start + i) 0 ≡ get_or (code_from m z y first i) 2 0
-  unfolding code_from
-  from_a e = rw e
-
--- it is in memory, where memory has its block
-pub from_fits :
-    (m : List ℕ) (first n y z k start : ℕ) → start ≡ place_of first y (block_of z k) → Has m z k → place_of first y 0 + n ≤ 1024 → start + n ≤ length m
-from_fits m first n y z k start e hz h = omega (arith, place_within first y (block_of z k))
-
--- n rows that follow on have their two stretches in a block
-module _ (y n : ℕ) (high : y + n ≤ 32) where
-  pub lefts_fit : place_of 0 y 0 + 32 * n ≤ 1024
-  lefts_fit = omega (arith, place_left 0 y 0 (omega arith))
-
-  pub rights_fit : 8 ≤ y → place_of 32 y 0 + 8 * n ≤ 1024
-  rights_fit low = omega (arith, place_right 32 y 0 (omega arith) (λ e. omega arith))
-
--- and so has one row, also the service row
-pub right_fits : (y : ℕ) → y < 32 → place_of 32 y 0 + 8 ≤ 1024
-right_fits y h =
-    ⊎_elim (λ q. omega (arith, place_service 32 y 0 (omega arith) q)) (λ q. omega (arith, place_right 32 y 0 (omega arith) q)) (eq_or_ne y 0)
-
--- the service row is one stretch
-pub service_fits : place_of 0 0 0 + 40 ≤ 1024
-service_fits = omega (arith, place_left 0 0 0 (omega arith))
-
-pub service_code : (m : List ℕ) (z i : ℕ) → i < 40 → code_from m z 0 0 i ≡ code_of m z 0 i
-unfolding code_from code_of
-service_code m z i l = rw (same (block_of z 0), same (block_of z 1), same (block_of z 2))
-  where
-    same : (b : ℕ) → place_of 0 0 b + i ≡ place_of i 0 b
-    same b =
-        ⊎_elim
-        (λ q. omega (arith, place_left 0 0 b (omega arith), place_left i 0 b q))
-        (λ q. omega (arith, place_left 0 0 b (omega arith), place_service i 0 b q refl))
-        (lt_or_le i 32)
-
-module _ (m : List ℕ) (z y : ℕ) (g : List ℕ → Bool) where
-  pub one_row :
-      (left right : Bool) → left ≡ any_below (λ i. g (code_from m z y 0 i)) 32 → right ≡ any_below (λ i. g (code_from m z y 32 i)) 8
-      → (left || right) ≡ any_below (λ x. g (code_of m z y x)) 40
-  one_row left right p q =
-      row_stretches (λ x. g (code_of m z y x)) left right
-      (p ∙ any_same _ _ 32 (λ i l. ap g (stretch_code_lem 0 i (omega arith) (omega arith) m y z)))
-      (q ∙ any_same _ _ 8 (λ i l. ap g (stretch_code_lem 32 i (omega arith) (omega arith) m y z)))
-
-  -- the row k Ys on follows on
-  next_left : (k i : ℕ) → i < 32 → code_from m z y 0 (32 * k + i) ≡ code_of m z (y + k) (0 + i)
-  unfolding code_from code_of
-  next_left k i l = rw (same (block_of z 0), same (block_of z 1), same (block_of z 2))
-    where
-      same : (b : ℕ) → place_of 0 y b + (32 * k + i) ≡ place_of (0 + i) (y + k) b
-      same b = omega (arith, place_left 0 y b (omega arith), place_left (0 + i) (y + k) b (omega arith))
-
-  next_right : (k i : ℕ) → i < 8 → 8 ≤ y → code_from m z y 32 (8 * k + i) ≡ code_of m z (y + k) (32 + i)
-  unfolding code_from code_of
-  next_right k i l h = rw (same (block_of z 0), same (block_of z 1), same (block_of z 2))
-    where
-      same : (b : ℕ) → place_of 32 y b + (8 * k + i) ≡ place_of (32 + i) (y + k) b
-      same b = omega (arith, place_right 32 y b (omega arith) (λ e. omega arith), place_right (32 + i) (y + k) b (omega arith) (λ e. omega arith))
-
-  abbrev lefts : ℕ → Bool
-  lefts i = g (code_from m z y 0 i)
-
-  abbrev rights : ℕ → Bool
-  rights i = g (code_from m z y 32 i)
-
-  abbrev passes : ℕ → Bool
-  passes k = any_below (λ x. g (code_of m z (y + k) x)) 40
-
-  row_passes : (k : ℕ) → 8 ≤ y → (any_below (λ i. lefts (32 * k + i)) 32 || any_below (λ i. rights (8 * k + i)) 8) ≡ passes k
-  row_passes k h =
-      row_stretches (λ x. g (code_of m z (y + k) x)) _ _
-      (any_same _ _ 32 (λ i l. ap g (next_left k i l)))
-      (any_same _ _ 8 (λ i l. ap g (next_right k i l h)))
-
-  stretches_pass : (n : ℕ) → 8 ≤ y → (any_below lefts (32 * n) || any_below rights (8 * n)) ≡ any_below passes n
-  unfolding any_below
-  stretches_pass zero h = refl
-  stretches_pass (suc n) h =
-      let el : 32 * suc n ≡ 32 * n + 32 = omega arith in
-      let er : 8 * suc n ≡ 8 * n + 8 = omega arith in
-      ap₂ ◌||◌ (ap (any_below lefts) el ∙ any_split lefts (32 * n) 32) (ap (any_below rights) er ∙ any_split rights (8 * n) 8)
-      ∙ or_swap (any_below lefts (32 * n)) (any_below (λ i. lefts (32 * n + i)) 32) (any_below rights (8 * n)) (any_below (λ i. rights (8 * n + i)) 8)
-      ∙ ap₂ ◌||◌ (stretches_pass n h) (row_passes n h)
-
-  -- n rows at once
-  pub several_rows :
-      (n : ℕ) (left right : Bool) → 8 ≤ y → left ≡ any_below lefts (32 * n) → right ≡ any_below rights (8 * n) → (left || right) ≡ any_below passes n
-  several_rows n left right h p q = ap₂ ◌||◌ p q ∙ stretches_pass n h
-
--- the three stretches of a row in which flashing is asked
-pub three_stretches :
+-- the three parts in which a row is asked
+pub three_parts :
     (f : ℕ → Bool) (first second third : Bool)
     → first ≡ any_below (λ i. f (0 + i)) 16 → second ≡ any_below (λ i. f (16 + i)) 16 → third ≡ any_below (λ i. f (32 + i)) 8
     → (first || (second || third)) ≡ any_below f 40
-three_stretches f first second third p q r =
+three_parts f first second third p q r =
     sym (or_assoc first second third)
     ∙ row_stretches f (first || second) third
     (ap₂ ◌||◌ (p ∙ any_same _ _ 16 (λ i l. ap f (omega arith))) q ∙ sym (any_split f 16 16) ∙ any_same f (λ i. f (0 + i)) 32 (λ i l. ap f (omega arith)))
     r
+
+-- the places of a row's cells
+module _ (y : ℕ) where
+  left_place : (i : ℕ) → i < 32 → place_of 0 y 0 + i ≡ place_of i y 0
+  left_place i l = omega (arith, place_left 0 y 0 (omega arith), place_left i y 0 l)
+
+  right_place : (i : ℕ) → i < 8 → place_of 32 y 0 + i ≡ place_of (32 + i) y 0
+  right_place i l =
+      ⊎_elim
+      (λ e. omega (arith, place_service 32 y 0 (omega arith) e, place_service (32 + i) y 0 (omega arith) e))
+      (λ n. omega (arith, place_right 32 y 0 (omega arith) n, place_right (32 + i) y 0 (omega arith) n))
+      (eq_or_ne y 0)
+
+  -- those of the row k Ys on follow on
+  next_left : (k i : ℕ) → i < 32 → place_of 0 y 0 + (32 * k + i) ≡ place_of i (y + k) 0
+  next_left k i l = omega (arith, place_left 0 y 0 (omega arith), place_left i (y + k) 0 l)
+
+  next_right : (k i : ℕ) → i < 8 → 8 ≤ y → place_of 32 y 0 + (8 * k + i) ≡ place_of (32 + i) (y + k) 0
+  next_right k i l h = omega (arith, place_right 32 y 0 (omega arith) (λ e. omega arith), place_right (32 + i) (y + k) 0 (omega arith) (λ e. omega arith))
+
+  -- all in their block
+  pub left_low : (n i : ℕ) → y + n ≤ 32 → i < 32 * n → place_of 0 y 0 + i < 1024
+  left_low n i h l = omega (arith, place_left 0 y 0 (omega arith))
+
+  pub right_low : (i : ℕ) → y < 32 → i < 8 → place_of 32 y 0 + i < 1024
+  right_low i h l =
+      ⊎_elim
+      (λ e. omega (arith, place_service 32 y 0 (omega arith) e))
+      (λ n. omega (arith, place_right 32 y 0 (omega arith) n))
+      (eq_or_ne y 0)
+
+  pub rights_low : (n i : ℕ) → 8 ≤ y → y + n ≤ 32 → i < 8 * n → place_of 32 y 0 + i < 1024
+  rights_low n i low h l = omega (arith, place_right 32 y 0 (omega arith) (λ e. omega arith))
+
+  -- what is asked in parts is asked of the cells
+  module _ (test : ℕ → Bool) where
+    pub one_row :
+        (first second third : Bool)
+        → first ≡ any_below (λ i. test (place_of 0 y 0 + i)) 16 → second ≡ any_below (λ i. test (place_of 0 y 0 + 16 + i)) 16
+        → third ≡ any_below (λ i. test (place_of 32 y 0 + i)) 8
+        → (first || (second || third)) ≡ any_below (λ x. test (place_of x y 0)) 40
+    one_row first second third p q r =
+        three_parts (λ x. test (place_of x y 0)) first second third
+        (p ∙ any_same _ (λ i. test (place_of (0 + i) y 0)) 16 (λ i l. ap test (let e : i ≡ 0 + i = omega arith in left_place i (omega arith) ∙ ap (λ (x : ℕ). place_of x y 0) e)))
+        (q ∙ any_same _ _ 16 (λ i l. ap test (let e : place_of 0 y 0 + 16 + i ≡ place_of 0 y 0 + (16 + i) = omega arith in e ∙ left_place (16 + i) (omega arith))))
+        (r ∙ any_same _ _ 8 (λ i l. ap test (right_place i l)))
+
+    abbrev lefts : ℕ → Bool
+    lefts i = test (place_of 0 y 0 + i)
+
+    abbrev rights : ℕ → Bool
+    rights i = test (place_of 32 y 0 + i)
+
+    abbrev passes : ℕ → Bool
+    passes k = any_below (λ x. test (place_of x (y + k) 0)) 40
+
+    row_passes : (k : ℕ) → 8 ≤ y → (any_below (λ i. lefts (32 * k + i)) 32 || any_below (λ i. rights (8 * k + i)) 8) ≡ passes k
+    row_passes k h =
+        row_stretches (λ x. test (place_of x (y + k) 0)) _ _
+        (any_same _ (λ i. test (place_of (0 + i) (y + k) 0)) 32 (λ i l. ap test (let e : i ≡ 0 + i = omega arith in next_left k i l ∙ ap (λ (x : ℕ). place_of x (y + k) 0) e)))
+        (any_same _ _ 8 (λ i l. ap test (next_right k i l h)))
+
+    stretches_pass : (n : ℕ) → 8 ≤ y → (any_below lefts (32 * n) || any_below rights (8 * n)) ≡ any_below passes n
+    unfolding any_below
+    stretches_pass zero h = refl
+    stretches_pass (suc n) h =
+        let el : 32 * suc n ≡ 32 * n + 32 = omega arith in
+        let er : 8 * suc n ≡ 8 * n + 8 = omega arith in
+        ap₂ ◌||◌ (ap (any_below lefts) el ∙ any_split lefts (32 * n) 32) (ap (any_below rights) er ∙ any_split rights (8 * n) 8)
+        ∙ or_swap (any_below lefts (32 * n)) (any_below (λ i. lefts (32 * n + i)) 32) (any_below rights (8 * n)) (any_below (λ i. rights (8 * n + i)) 8)
+        ∙ ap₂ ◌||◌ (stretches_pass n h) (row_passes n h)
+
+    -- n rows at once
+    pub several_rows :
+        (n : ℕ) (left right : Bool) → 8 ≤ y → left ≡ any_below lefts (32 * n) → right ≡ any_below rights (8 * n) → (left || right) ≡ any_below passes n
+    several_rows n left right h p q = ap₂ ◌||◌ p q ∙ stretches_pass n h
 
 -- where nothing blinks nothing flashes
 pub none_flashes :

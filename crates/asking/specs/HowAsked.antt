@@ -1,10 +1,10 @@
 -- How the code asks a row whether it has a cell of some kind. Nothing here has to be believed: proofs/Rows.antt shows that the tests of the bytes are
--- those of the cells, in a stretch of a row and in rows that follow on.
+-- those of the cells, in a row and in rows that follow on.
 -- Assumes nothing.
-use Rattle.std.specs.Prelude.{ℕ, ◌+◌, ◌/◌, ◌%◌, Bool, ◌&&◌, List, [], ◌∷◌, eqb, leb, get_or}
+use Rattle.std.specs.Prelude.{ℕ, ◌+◌, ◌*◌, ◌/◌, ◌%◌, Bool, ◌&&◌, List, [], ◌∷◌, eqb, leb, get_or}
 use Rattle.basics.specs.Below.{any_below}
 use Rattle.board.specs.declared.Part.{Part}
-use Rattle.address.specs.Places.{place_of, block_of, byte_at}
+use Rattle.address.specs.Places.{block_of, byte_at}
 use Rattle.page.specs.HowCodes.{code_of}
 use Rattle.page.specs.Halves.{is_tall}
 use Rattle.page.specs.Inputs.{flashes}
@@ -20,10 +20,10 @@ shows_character t code = eqb (get_or code 0 0 % 128) t && leb 128 (get_or code 1
 unfoldable pub blinks : List ℕ → Bool
 blinks code = eqb (get_or code 2 0 / 8 % 2) 1
 
--- the three bytes i after those of the cell at X and Y: of another cell of the row, or of a row with one of the next Ys
-unfoldable pub code_from : List ℕ → ℕ → ℕ → ℕ → ℕ → List ℕ
-code_from m z y x i =
-    byte_at m (place_of x y (block_of z 0) + i) ∷ byte_at m (place_of x y (block_of z 1) + i) ∷ byte_at m (place_of x y (block_of z 2) + i) ∷ []
+-- the three bytes at one place of their blocks
+unfoldable pub code_in : List ℕ → ℕ → ℕ → List ℕ
+code_in m z at =
+    byte_at m (1024 * block_of z 0 + at) ∷ byte_at m (1024 * block_of z 1 + at) ∷ byte_at m (1024 * block_of z 2 + at) ∷ []
 
 -- some cell of the row at Y, of the page whose first block is z
 abbrev pub tall_at : Part → List ℕ → ℕ → ℕ → Bool

@@ -1,161 +1,179 @@
-// Questions about a row of the page at Y, whose first block is Z, and about rows that follow on: each is asked of their stretches, left and right.
-ghost use Rattle.std.specs.Prelude.{◌≡◌, true, ◌||◌, ◌+◌, ◌≤◌, ◌<◌};
+// Questions about a row of the page at Y, whose first block is Z, and about rows that follow on: each is asked of the bytes of every cell, and the
+// bytes of the cells stand side by side, those of the left columns and those of the right.
+ghost use Rattle.std.specs.Prelude.{◌≡◌, ℕ, Bool, true, List, [], ◌∷◌, ◌+◌, ◌≤◌, ◌<◌, get_or};
 ghost use Rattle.basics.specs.Below.{any_below};
 ghost use Rattle.board.specs.declared.Part.TheVariants.{Ef9345, Ts9347};
+ghost use Rattle.address.specs.Places.{place_of};
+ghost use Rattle.page.specs.Asked.{AnswersAs};
 ghost use Rattle.page.specs.HowCodes.{Has};
-ghost use Rattle.asking.specs.HowAsked.{tall_at, flash_at, pair_flash_at, blink_at, character_at, keyed_at};
+ghost use Rattle.page.specs.Halves.{is_tall};
+ghost use Rattle.page.specs.Inputs.{flashes};
+ghost use Rattle.narrow.specs.Codes.{pair_flashes};
+ghost use Rattle.asking.specs.HowAsked.{blinks, shows_character, tall_at, flash_at, pair_flash_at, blink_at, character_at, keyed_at};
 ghost use Rattle.keys.specs.HowKeys.{keys_high};
 
-use crate::stretch::{
-    some_bit_1, some_blink, some_character, some_flash, some_keyed, some_pair_flash, some_tall,
-};
+use address::place::place_at;
 use board::Part;
 use keys::key::Keys;
+use page::code::block_start;
+use page::stretch::some_below;
 
-// Of an EF9345.
-fn has_bichrome_tall(memory: &[u8], z: u8, y: u8) -> bool
-    requires { Has memory.now z 1 × (y < 32) }
-    ensures { result ≡ tall_at Ef9345 memory.now z y }
+// The question is answered yes for a cell of the row at Y. It is asked of where the cell's bytes stand in their blocks. Where a row has such a cell, one on its
+// left is most often, so the 32 left columns, which stand side by side, are asked in two halves, and then the 8 right ones.
+#[inline(always)]
+fn some_in_row<F: Fn(usize) -> bool>(y: u8, question: F) -> bool
+    requires { (y < 32) × ((at : ℕ) → at < 1024 → F.pre question at) }
+    ensures { (test : ℕ → Bool) → AnswersAs (F.post question) test 1024 → result ≡ any_below (λ x. test (place_of x y 0)) 40 }
 {
-    if some_tall(memory, z, y, 0, 32) {
-        return true;
-    }
-    some_tall(memory, z, y, 32, 8)
+    let left = place_at(0, y as u16, 0);
+    let right = place_at(32, y as u16, 0);
+    some_below(16, |i| question(left + i))
+        || some_below(16, |i| question(left + 16 + i))
+        || some_below(8, |i| question(right + i))
 }
 
-// Of a TS9347, whose every cell is bichrome.
-fn has_bit_1(memory: &[u8], z: u8, y: u8) -> bool
-    requires { Has memory.now z 1 × (y < 32) }
-    ensures { result ≡ tall_at Ts9347 memory.now z y }
+// The same of a cell of the row at Y or of the rows with the next Ys, so many in all: from Y 8 on the row with the next Y follows on, on the left and on the
+// right, so that one look does for all.
+fn some_in_rows<F: Fn(usize) -> bool>(y: u8, rows: usize, question: F) -> bool
+    requires { (8 ≤ y) × (y + rows ≤ 32) × ((at : ℕ) → at < 1024 → F.pre question at) }
+    ensures { (test : ℕ → Bool) → AnswersAs (F.post question) test 1024
+        → result ≡ any_below (λ k. any_below (λ x. test (place_of x (y + k) 0)) 40) rows }
 {
-    if some_bit_1(memory, z, y, 0, 32) {
-        return true;
-    }
-    some_bit_1(memory, z, y, 32, 8)
+    let left = place_at(0, y as u16, 0);
+    let right = place_at(32, y as u16, 0);
+    some_below(32 * rows, |i| question(left + i)) || some_below(8 * rows, |i| question(right + i))
 }
 
+// The tests of a cell by its bytes, each part with its own, so that the limit of B is a number in the loop and not a variable. Double height, of an EF9345.
+fn is_tall_ef9345(b: u8) -> bool
+    ensures { (code : List ℕ) → b ≡ get_or code 1 0 → result ≡ is_tall Ef9345 code }
+{
+    (b < 192) & (b / 2 % 2 == 1)
+}
+
+// Double height of a TS9347, whose every cell is bichrome: B1 alone tells it.
+fn is_tall_ts9347(b: u8) -> bool
+    ensures { (code : List ℕ) → b ≡ get_or code 1 0 → result ≡ is_tall Ts9347 code }
+{
+    b / 2 % 2 == 1
+}
+
+// Flashing, of an EF9345.
+fn flashes_ef9345(b: u8, a: u8) -> bool
+    ensures { (code : List ℕ) → b ≡ get_or code 1 0 → a ≡ get_or code 2 0 → result ≡ flashes Ef9345 code }
+{
+    (b < 192) & (a / 8 % 2 == 1)
+}
+
+// In 80 columns a column flashes where one of its two cells does. The attributes of both are halves of one byte.
+fn pair_flashes(c: u8, b: u8, a: u8) -> bool
+    ensures { result ≡ pair_flashes (c ∷ b ∷ a ∷ []) }
+{
+    let even = (c < 128) & (a / 64 % 2 == 1);
+    let odd = (b < 128) & (a / 4 % 2 == 1);
+    even | odd
+}
+
+// A3 is set, whatever B is: half the bytes of the question whether the cell flashes.
+fn blinks(a: u8) -> bool
+    ensures { (code : List ℕ) → a ≡ get_or code 2 0 → result ≡ blinks code }
+{
+    a / 8 % 2 == 1
+}
+
+// C is the character, and B is not that of a cell from the ROM.
+fn shows_character(c: u8, b: u8, t: u8) -> bool
+    ensures { (code : List ℕ) → c ≡ get_or code 0 0 → b ≡ get_or code 1 0 → result ≡ shows_character t code }
+{
+    (c % 128 == t) & (b >= 128)
+}
+
+// A cell of double height.
 pub fn has_tall(part: Part, memory: &[u8], z: u8, y: u8) -> bool
     requires { Has memory.now z 1 × (y < 32) }
     ensures { result ≡ tall_at part memory.now z y }
 {
+    let b = block_start(z, 1);
     match part {
-        Part::Ef9345 => has_bichrome_tall(memory, z, y),
-        Part::Ts9347 => has_bit_1(memory, z, y),
+        Part::Ef9345 => some_in_row(y, |at| is_tall_ef9345(memory[b + at])),
+        Part::Ts9347 => some_in_row(y, |at| is_tall_ts9347(memory[b + at])),
     }
 }
 
-// Of an EF9345. Where a row flashes, a cell on its left does most often.
-fn has_flash(memory: &[u8], z: u8, y: u8) -> bool
+// A cell that flashes, of an EF9345.
+#[inline(always)]
+pub fn has_flash(memory: &[u8], z: u8, y: u8) -> bool
     requires { Has memory.now z 1 × Has memory.now z 2 × (y < 32) }
     ensures { result ≡ flash_at Ef9345 memory.now z y }
 {
-    if some_flash(memory, z, y, 0, 16) {
-        return true;
-    }
-    some_flash(memory, z, y, 16, 16) | some_flash(memory, z, y, 32, 8)
+    let b = block_start(z, 1);
+    let a = block_start(z, 2);
+    some_in_row(y, |at| flashes_ef9345(memory[b + at], memory[a + at]))
 }
 
-// In 80 columns.
-fn has_pair_flash(memory: &[u8], z: u8, y: u8) -> bool
+// A column that flashes, in 80 columns.
+pub fn has_pair_flash(memory: &[u8], z: u8, y: u8) -> bool
     requires { Has memory.now z 0 × Has memory.now z 1 × Has memory.now z 2 × (y < 32) }
     ensures { result ≡ pair_flash_at memory.now z y }
 {
-    some_pair_flash(memory, z, y, 0, 32) | some_pair_flash(memory, z, y, 32, 8)
+    let c = block_start(z, 0);
+    let b = block_start(z, 1);
+    let a = block_start(z, 2);
+    some_in_row(
+        y,
+        |at| pair_flashes(memory[c + at], memory[b + at], memory[a + at]),
+    )
 }
 
-// The service row has a question of its own, so that the other rows' has one caller and is compiled into its loop.
-pub fn service_is_marked_or_flashes(memory: &[u8], z: u8, marked: bool) -> bool
-    requires { Has memory.now z 1 × Has memory.now z 2 }
-    ensures { result ≡ (marked || flash_at Ef9345 memory.now z 0) }
+// A cell whose A3 is set.
+pub fn has_blink(memory: &[u8], z: u8, y: u8) -> bool
+    requires { Has memory.now z 2 × (y < 32) }
+    ensures { result ≡ blink_at memory.now z y }
 {
-    if marked {
-        return true;
-    }
-    some_flash(memory, z, 0, 0, 32) | some_flash(memory, z, 0, 32, 8)
+    let a = block_start(z, 2);
+    some_in_row(y, |at| blinks(memory[a + at]))
 }
 
-// A cell of the rows with this Y and the next three has its A3 set: their bytes stand side by side, so that one look does for four rows.
+// The same of the row with this Y and the next three.
 pub fn near_blinks(memory: &[u8], z: u8, y: u8) -> bool
     requires { Has memory.now z 2 × (8 ≤ y) × (y < 29) }
     ensures { result ≡ any_below (λ k. blink_at memory.now z (y + k)) 4 }
 {
-    some_blink(memory, z, y, 0, 128) | some_blink(memory, z, y, 32, 32)
+    let a = block_start(z, 2);
+    some_in_rows(y, 4, |at| blinks(memory[a + at]))
 }
 
-fn has_character(memory: &[u8], z: u8, y: u8, t: u8) -> bool
+// A cell with the character, and not from the ROM.
+pub fn has_character(memory: &[u8], z: u8, y: u8, t: u8) -> bool
     requires { Has memory.now z 0 × Has memory.now z 1 × (y < 32) }
     ensures { result ≡ character_at memory.now z y t }
 {
-    some_character(memory, z, y, 0, 32, t) | some_character(memory, z, y, 32, 8, t)
+    let c = block_start(z, 0);
+    let b = block_start(z, 1);
+    some_in_row(y, |at| shows_character(memory[c + at], memory[b + at], t))
 }
 
-// The service row: its forty bytes in a block stand side by side.
-pub fn service_has(memory: &[u8], z: u8, t: u8) -> bool
-    requires { Has memory.now z 0 × Has memory.now z 1 }
-    ensures { result ≡ character_at memory.now z 0 t }
-{
-    some_character(memory, z, 0, 0, 40, t)
-}
-
-// One look for the rows with this Y and the next.
+// The same of the row with this Y and the next.
 pub fn near_has(memory: &[u8], z: u8, y: u8, t: u8) -> bool
     requires { Has memory.now z 0 × Has memory.now z 1 × (8 ≤ y) × (y < 31) }
     ensures { result ≡ any_below (λ k. character_at memory.now z (y + k) t) 2 }
 {
-    some_character(memory, z, y, 0, 64, t) | some_character(memory, z, y, 32, 16, t)
+    let c = block_start(z, 0);
+    let b = block_start(z, 1);
+    some_in_rows(
+        y,
+        2,
+        |at| shows_character(memory[c + at], memory[b + at], t),
+    )
 }
 
-// Most rows do not have the character at all: that is asked before the parts of B.
-fn has_keyed(memory: &[u8], z: u8, y: u8, keys: Keys) -> bool
+// A cell that the keys fit. Most rows do not have the character at all: that is asked before the parts of B.
+pub fn has_keyed(memory: &[u8], z: u8, y: u8, keys: Keys) -> bool
     requires { Has memory.now z 0 × Has memory.now z 1 × (y < 32) × (keys_high keys ≡ true) }
     ensures { result ≡ keyed_at keys memory.now z y }
 {
-    if has_character(memory, z, y, keys.character) {
-        return some_keyed(memory, z, y, 0, 32, keys) | some_keyed(memory, z, y, 32, 8, keys);
-    }
-    false
-}
-
-// The row is marked, or it flashes, of an EF9345.
-pub fn is_marked_or_flashes(memory: &[u8], z: u8, y: u8, marked: bool) -> bool
-    requires { Has memory.now z 1 × Has memory.now z 2 × (y < 32) }
-    ensures { result ≡ (marked || flash_at Ef9345 memory.now z y) }
-{
-    if marked {
-        return true;
-    }
-    has_flash(memory, z, y)
-}
-
-// The row is marked, or a cell of it has its A3 set: it flashes, of a TS9347.
-pub fn is_marked_or_blinks(memory: &[u8], z: u8, y: u8, marked: bool) -> bool
-    requires { Has memory.now z 2 × (y < 32) }
-    ensures { result ≡ (marked || blink_at memory.now z y) }
-{
-    if marked {
-        return true;
-    }
-    some_blink(memory, z, y, 0, 32) | some_blink(memory, z, y, 32, 8)
-}
-
-// The row is marked, or it flashes in 80 columns.
-pub fn is_marked_or_pair_flashes(memory: &[u8], z: u8, y: u8, marked: bool) -> bool
-    requires { Has memory.now z 0 × Has memory.now z 1 × Has memory.now z 2 × (y < 32) }
-    ensures { result ≡ (marked || pair_flash_at memory.now z y) }
-{
-    if marked {
-        return true;
-    }
-    has_pair_flash(memory, z, y)
-}
-
-// The row is marked, or the keys fit a cell of it.
-pub fn is_marked_or_keyed(memory: &[u8], z: u8, y: u8, keys: Keys, marked: bool) -> bool
-    requires { Has memory.now z 0 × Has memory.now z 1 × (y < 32) × (keys_high keys ≡ true) }
-    ensures { result ≡ (marked || keyed_at keys memory.now z y) }
-{
-    if marked {
-        return true;
-    }
-    has_keyed(memory, z, y, keys)
+    let c = block_start(z, 0);
+    let b = block_start(z, 1);
+    has_character(memory, z, y, keys.character)
+        && some_in_row(y, |at| keys.fit(memory[c + at], memory[b + at]))
 }

@@ -247,3 +247,13 @@ keys_high_lem shown x y blocks keys e =
 
     quad : (z : ℕ) → leb 16 (quad_key shown z) ≡ true
     quad z = high 16 (eqb (shown.dor / 128 % 2) (z / 8)) (24 + z % 8) (omega arith) (omega arith)
+
+-- the keys' test of a cell, by the bytes that the code reads
+pub keyed_test :
+    (code : List ℕ) (c b : ℕ) (keys : Keys) → c ≡ get_or code 0 0 → b ≡ get_or code 1 0
+    → (eqb (c % 128) keys.character
+    && ((eqb (b / 32) keys.user0 || (eqb (b / 16) keys.user10 || eqb (b / 16) keys.user11))
+    || (eqb (b / 8) keys.quad0 || (eqb (b / 8) keys.quad1 || eqb (b / 8) keys.quad2))))
+    ≡ keyed keys code
+unfolding from_block keyed
+keyed_test code c b keys e f = rw (e, f)

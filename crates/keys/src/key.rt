@@ -1,7 +1,7 @@
 // Which cells read a byte at X and Y in one of a few blocks as a slice. X and Y leave one character; the blocks and DOR leave at most
 // six values of parts of B: so a cell is asked by comparing its bytes, and no place is worked out.
-ghost use Rattle.std.specs.Prelude.{◌≡◌, true, ◌<◌};
-ghost use Rattle.keys.specs.HowKeys.{key_if, quad_key, keys_of, is_source, is_one, some_changed, code_block, some_code_block};
+ghost use Rattle.std.specs.Prelude.{◌≡◌, ℕ, List, ◌<◌, get_or};
+ghost use Rattle.keys.specs.HowKeys.{key_if, quad_key, keys_of, is_source, keyed, is_one, some_changed, code_block, some_code_block};
 
 use address::place::block;
 use shown::Shown;
@@ -17,6 +17,17 @@ pub struct Keys {
     pub quad0: u8,
     pub quad1: u8,
     pub quad2: u8,
+}
+
+impl Keys {
+    // The cell of these bytes is one that the keys fit.
+    pub fn fit(self, c: u8, b: u8) -> bool
+        ensures { (code : List ℕ) → c ≡ get_or code 0 0 → b ≡ get_or code 1 0 → result ≡ keyed self code }
+    {
+        let user = (b / 32 == self.user0) | ((b / 16 == self.user10) | (b / 16 == self.user11));
+        let quad = (b / 8 == self.quad0) | ((b / 8 == self.quad1) | (b / 8 == self.quad2));
+        (c % 128 == self.character) & (user | quad)
+    }
 }
 
 fn key_if(fits: bool, key: u8) -> u8
@@ -71,13 +82,7 @@ pub fn is_source(keys: Keys) -> bool
 pub fn some_changed(blocks: [u8; 3]) -> bool
     ensures { result ≡ some_changed blocks }
 {
-    if blocks[0] != 255 {
-        return true;
-    }
-    if blocks[1] != 255 {
-        return true;
-    }
-    blocks[2] != 255
+    (blocks[0] != 255) | ((blocks[1] != 255) | (blocks[2] != 255))
 }
 
 // Z is one of the three blocks of a page.

@@ -1,3 +1,4 @@
+pub mod Unmarked
 pub mod Ends
 pub mod Falls
 pub mod Loops

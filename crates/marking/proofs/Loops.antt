@@ -22,6 +22,13 @@ use Rattle.reading.proofs.Marking.{marked_again, marked_none, marked_same, marke
 pub row_asked : (f : ℕ → Bool) (t : Bool) (y k : ℕ) → t ≡ f y → y ≡ k → t ≡ f k
 row_asked f t y k p q = p ∙ ap f q
 
+-- a mark that is there, and one for which the row is asked
+pub or_found : (a b v : Bool) → v ≡ a → a ≡ true → v ≡ (a || b)
+or_found a b v e t = e ∙ t ∙ sym (ap (λ (s : Bool). s || b) t)
+
+pub or_asked : (a b v t : Bool) → v ≡ t → t ≡ b → a ≡ false → v ≡ (a || b)
+or_asked a b v t e q f = e ∙ q ∙ sym (ap (λ (s : Bool). s || b) f)
+
 absorbed : (a b : Bool) → ((a && b) || b) ≡ b
 absorbed true true = refl
 absorbed true false = refl

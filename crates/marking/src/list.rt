@@ -12,7 +12,7 @@ ghost use Rattle.keys.specs.HowKeys.{AllFitted, row_at, some_code_block, keys_hi
 
 use address::place::block;
 use address::row::row_y;
-use asking::row::{has_tall, is_marked_or_keyed, near_has, service_has};
+use asking::row::{has_character, has_keyed, has_tall, near_has};
 use board::Part;
 use keys::key::{Keys, is_source, keys_of, some_code_block};
 use keys::own::row_at;
@@ -20,29 +20,25 @@ use shown::Shown;
 
 // The row that has the byte among its own, and those below it down to the first without a cell of double height.
 fn reach(marks: &mut [bool; 25], part: Part, memory: &[u8], z: u8, yor: u8, row: u8)
-    requires { (length marks.old ≡ 25) × Has memory.now z 1 × (row < 25) }
+    requires { Has memory.now z 1 × (row < 25) }
     ensures { marks.new ≡ marked_too (falls_to (λ r. tall_at part memory.now z (row_y yor r)) row) marks.old }
 {
-    let mut r = row as usize;
-    marks[r] = true;
-    r += 1;
-    while r < 25 {
+    let own = row as usize;
+    marks[own] = true;
+    for r in own + 1..25 {
         if !has_tall(part, memory, z, row_y(yor, r as u8)) {
             return;
         }
         marks[r] = true;
-        r += 1;
     }
 }
 
 // The row that has a byte at Y in one of the blocks among its own. No row above it or below it is asked.
 fn own_row(marks: &mut [bool; 25], z: u8, yor: u8, y: u8, blocks: [u8; 3])
-    requires { length marks.old ≡ 25 }
     ensures { marks.new ≡ marked_too (λ r. eqb r (row_at yor y) && some_code_block z blocks) marks.old }
 {
     let r = row_at(yor, y) as usize;
-    let marked = marks[r];
-    marks[r] = marked | some_code_block(z, blocks);
+    marks[r] |= some_code_block(z, blocks);
 }
 
 // The rows that read a byte at Y in one of the blocks as one of their own, or of a row above.
@@ -55,7 +51,7 @@ fn own_marks(
     y: u8,
     blocks: [u8; 3],
 )
-    requires { (length marks.old ≡ 25) × Has memory.now z 1 }
+    requires { Has memory.now z 1 }
     ensures { marks.new ≡ marked_too (λ r. some_code_block z blocks && falls_to (λ i. tall_at part memory.now z (row_y yor i)) (row_at yor y) r) marks.old }
 {
     if some_code_block(z, blocks) {
@@ -65,31 +61,30 @@ fn own_marks(
 
 // The rows with a Y and the next that the keys fit.
 fn group_marks(marks: &mut [bool; 25], memory: &[u8], z: u8, yor: u8, first: u8, keys: Keys)
-    requires { (length marks.old ≡ 25) × Has memory.now z 0 × Has memory.now z 1 × (8 ≤ first) × (first < 31) × (keys_high keys ≡ true) }
+    requires { Has memory.now z 0 × Has memory.now z 1 × (8 ≤ first) × (first < 31) × (keys_high keys ≡ true) }
     ensures { marks.new ≡ marked_too (λ r. in_group first (first + 2) (row_y yor r) && keyed_at keys memory.now z (row_y yor r)) marks.old }
 {
     for y in first..first + 2 {
         let r = row_at(yor, y) as usize;
         let marked = marks[r];
-        marks[r] = is_marked_or_keyed(memory, z, y, keys, marked);
+        marks[r] = marked || has_keyed(memory, z, y, keys);
     }
 }
 
 // The service row, if the keys fit it. Its mark is looked at last, since most often it does not have the character.
 fn service_marks(marks: &mut [bool; 25], memory: &[u8], z: u8, keys: Keys)
-    requires { (length marks.old ≡ 25) × Has memory.now z 0 × Has memory.now z 1 × (keys_high keys ≡ true) }
+    requires { Has memory.now z 0 × Has memory.now z 1 × (keys_high keys ≡ true) }
     ensures { marks.new ≡ marked_too (λ r. eqb r 0 && keyed_at keys memory.now z 0) marks.old }
 {
-    if service_has(memory, z, keys.character) {
-        let marked = marks[0];
-        marks[0] = is_marked_or_keyed(memory, z, 0, keys, marked);
+    if has_character(memory, z, 0, keys.character) {
+        marks[0] = marks[0] || has_keyed(memory, z, 0, keys);
     }
 }
 
 // The rows that the keys fit, by Y: two rows of which neither has the character are left by one look at both. The service row, at Y 0, is asked
 // by itself, since no row follows on it.
 fn slice_marks(marks: &mut [bool; 25], memory: &[u8], z: u8, yor: u8, keys: Keys)
-    requires { (length marks.old ≡ 25) × Has memory.now z 0 × Has memory.now z 1 × (keys_high keys ≡ true) }
+    requires { Has memory.now z 0 × Has memory.now z 1 × (keys_high keys ≡ true) }
     ensures { marks.new ≡ marked_too (λ r. keyed_at keys memory.now z (row_y yor r)) marks.old }
 {
     service_marks(marks, memory, z, keys);
@@ -111,17 +106,13 @@ pub fn list_marks(
     y: u8,
     blocks: [u8; 3],
 )
-    requires { (length marks.old ≡ 25) × (length memory.now ≡ bytes_of shown.blocks) × (on_page x y ≡ true) × AllFitted shown.blocks blocks }
+    requires { (length memory.now ≡ bytes_of shown.blocks) × (on_page x y ≡ true) × AllFitted shown.blocks blocks }
     ensures { marks.new ≡ marked_too (some_on_list shown memory.now x y blocks) marks.old }
 {
     let yor = shown.yor();
     let z = shown.first_block();
     let eighty = shown.is_eighty();
-    if eighty {
-        own_row(marks, z, yor, y, blocks);
-        return;
-    }
-    if shown.blocks <= block(z, 1) {
+    if eighty || shown.blocks <= block(z, 1) {
         own_row(marks, z, yor, y, blocks);
         return;
     }

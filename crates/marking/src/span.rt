@@ -8,10 +8,9 @@ ghost use Rattle.address.specs.Places.{place_of, block_at};
 ghost use Rattle.reading.specs.Marks.{stores_marks, code_stores};
 ghost use Rattle.marking.specs.HowMarked.{changed_block};
 
-use crate::store::{change_marks, changed_block};
+use crate::store::{changed_block, marks_after};
 use address::place::block;
 use address::triple::Triple;
-use keys::key::some_changed;
 use shown::Shown;
 
 // The block of a byte that is one of them, where it changes, and else 255.
@@ -46,9 +45,5 @@ pub fn span_marks(
         changed_if(1 < bytes, memory, shown.blocks, here, block(at.z, 1), b),
         changed_if(2 < bytes, memory, shown.blocks, here, block(at.z, 2), a),
     ];
-    let mut after = marks;
-    if some_changed(blocks) {
-        change_marks(&mut after, shown, memory, at.x, at.y, blocks);
-    }
-    after
+    marks_after(marks, shown, memory, at.x, at.y, blocks)
 }

@@ -17,23 +17,16 @@ use address::triple::Triple;
 use keys::key::some_changed;
 use shown::Shown;
 
-// From the last row up: after a draw that is the first look.
+// Some row is not marked yet.
 fn some_unmarked(marks: &[bool; 25]) -> bool
     ensures { result ≡ any_below (is_unmarked marks.now) 25 }
 {
-    let mut r = 25;
-    while r > 0 {
-        r -= 1;
-        if !marks[r] {
-            return true;
-        }
-    }
-    false
+    marks.contains(&false)
 }
 
 // Where every row is marked none is asked. That question looks at a copy: of marks that are lent the compiler may not read all 25 at once.
 fn asked_marks(marks: &mut [bool; 25], shown: Shown, memory: &[u8], x: u8, y: u8, blocks: [u8; 3])
-    requires { (length marks.old ≡ 25) × (length memory.now ≡ bytes_of shown.blocks) × (on_page x y ≡ true) × AllFitted shown.blocks blocks }
+    requires { (length memory.now ≡ bytes_of shown.blocks) × (on_page x y ≡ true) × AllFitted shown.blocks blocks }
     ensures { marks.new ≡ marked_too (some_on_list shown memory.now x y blocks) marks.old }
 {
     let before = *marks;
@@ -43,20 +36,32 @@ fn asked_marks(marks: &mut [bool; 25], shown: Shown, memory: &[u8], x: u8, y: u8
 }
 
 // The marks after bytes at X and Y have changed in the blocks, in place: copying them in and out would cost more than most questions.
-pub fn change_marks(
-    marks: &mut [bool; 25],
-    shown: Shown,
-    memory: &[u8],
-    x: u8,
-    y: u8,
-    blocks: [u8; 3],
-)
-    requires { (length marks.old ≡ 25) × (length memory.now ≡ bytes_of shown.blocks) × (on_page x y ≡ true) × AllFitted shown.blocks blocks }
+fn change_marks(marks: &mut [bool; 25], shown: Shown, memory: &[u8], x: u8, y: u8, blocks: [u8; 3])
+    requires { (length memory.now ≡ bytes_of shown.blocks) × (on_page x y ≡ true) × AllFitted shown.blocks blocks }
     ensures { marks.new ≡ change_marks shown memory.now x y blocks marks.old }
 {
     if shown.can_draw() {
         asked_marks(marks, shown, memory, x, y, blocks);
     }
+}
+
+// The same of marks by value. Most often no block is there, and nothing is to be marked.
+#[inline(always)]
+pub fn marks_after(
+    mut marks: [bool; 25],
+    shown: Shown,
+    memory: &[u8],
+    x: u8,
+    y: u8,
+    blocks: [u8; 3],
+) -> [bool; 25]
+    requires { (length memory.now ≡ bytes_of shown.blocks) × (on_page x y ≡ true) × AllFitted shown.blocks blocks }
+    ensures { result ≡ change_marks shown memory.now x y blocks marks }
+{
+    if some_changed(blocks) {
+        change_marks(&mut marks, shown, memory, x, y, blocks);
+    }
+    marks
 }
 
 // Block Z where the value changes the byte that it has at this offset, and else 255. The number of the board's blocks is a byte, so that 255 is none of them.
@@ -91,11 +96,7 @@ pub fn code_marks(
         changed_block(memory, shown.blocks, here, block(at.z, 1), b),
         changed_block(memory, shown.blocks, here, block(at.z, 2), a),
     ];
-    let mut after = marks;
-    if some_changed(blocks) {
-        change_marks(&mut after, shown, memory, at.x, at.y, blocks);
-    }
-    after
+    marks_after(marks, shown, memory, at.x, at.y, blocks)
 }
 
 // The marks after C and the attributes of its column are stored at a legal triple's place and at theirs, both fitted; the stores themselves come after.
@@ -117,11 +118,7 @@ pub fn narrow_marks(
         changed_block(memory, shown.blocks, here, attributes.z, a),
         255,
     ];
-    let mut after = marks;
-    if some_changed(blocks) {
-        change_marks(&mut after, shown, memory, at.x, at.y, blocks);
-    }
-    after
+    marks_after(marks, shown, memory, at.x, at.y, blocks)
 }
 
 // The marks after a store of `value` at a triple that is legal and fitted; the store itself comes after.
@@ -141,9 +138,5 @@ pub fn store_marks(
         255,
         255,
     ];
-    let mut after = marks;
-    if some_changed(blocks) {
-        change_marks(&mut after, shown, memory, at.x, at.y, blocks);
-    }
-    after
+    marks_after(marks, shown, memory, at.x, at.y, blocks)
 }

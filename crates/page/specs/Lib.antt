@@ -4,3 +4,4 @@ pub mod Halves
 pub mod Inputs
 pub mod Marks
 pub mod HowHalves
+pub mod Asked

@@ -28,6 +28,13 @@ pub fn is_wide(code: [u8; 3]) -> bool
     (code[1] < 192) & (code[1] / 8 % 2 == 1)
 }
 
+// Where a block starts.
+pub fn block_start(z: u8, k: u8) -> usize
+    ensures { result ≡ 1024 * block_of z k }
+{
+    1024 * block(z, k) as usize
+}
+
 // The forty bytes at Y of block z: those of the left columns stand side by side, and those of the right ones. Where the block is not fitted they are 0.
 fn bytes_at(page: &Page, z: u8, y: u8) -> [u8; 40]
     requires { y < 32 }

@@ -1,8 +1,9 @@
 // Questions about a stretch of cells whose bytes stand side by side in each block of the page: columns 0 to 31 of a row, and 32 to 39.
 // Each loop gathers and goes to its end, so that it can be compiled to ask many bytes at once.
-ghost use Rattle.std.specs.Prelude.{◌≡◌, ◌+◌, ◌%◌, ◌<◌, ◌≤◌};
+ghost use Rattle.std.specs.Prelude.{◌≡◌, ℕ, Bool, List, ◌+◌, ◌%◌, ◌<◌, ◌≤◌, get_or};
 ghost use Rattle.basics.specs.Below.{any_below};
 ghost use Rattle.address.specs.Places.{place_of, block_of};
+ghost use Rattle.page.specs.Asked.{AnswersAs};
 ghost use Rattle.page.specs.HowCodes.{code_of, Has};
 ghost use Rattle.page.specs.Halves.{is_tall, is_wide, goes_on};
 ghost use Rattle.page.specs.HowHalves.{Within, Compared, stretch_code, goes_on_in};
@@ -10,6 +11,18 @@ ghost use Rattle.page.specs.HowHalves.{Within, Compared, stretch_code, goes_on_i
 use address::place::{block, place_at};
 use board::Part;
 use cell::decode::last_bichrome;
+
+// The question is answered yes at some number below n. It gathers and goes to its end, so that it can be compiled to ask many bytes at once.
+pub fn some_below<F: Fn(usize) -> bool>(n: usize, question: F) -> bool
+    requires { (i : ℕ) → i < n → F.pre question i }
+    ensures { (test : ℕ → Bool) → AnswersAs (F.post question) test n → result ≡ any_below test n }
+{
+    let mut found = false;
+    for i in 0..n {
+        found = found | question(i);
+    }
+    found
+}
 
 // Where byte k of a stretch's cells starts.
 pub fn start(z: u8, y: u8, first: u16, k: u8) -> usize
@@ -32,18 +45,20 @@ pub fn starts_of(z: u8, y: u8, first: u16) -> Starts
     compared_by(z, y, first, 2)
 }
 
+// A cell is of double width, by its B: from 192 on none is.
+fn is_wide_by(b: u8) -> bool
+    ensures { (code : List ℕ) → b ≡ get_or code 1 0 → result ≡ is_wide code }
+{
+    (b < 192) & (b / 8 % 2 == 1)
+}
+
 // A cell of double width.
 pub fn some_wide(memory: &[u8], z: u8, y: u8, first: u16, n: usize) -> bool
     requires { Has memory.now z 1 × (y < 32) × (first + n ≤ 40) × (first % 32 + n ≤ 32) }
     ensures { result ≡ any_below (λ i. is_wide (code_of memory.now z y (first + i))) n }
 {
     let b = start(z, y, first, 1);
-    let mut found = false;
-    for i in 0..n {
-        let byte = memory[b + i];
-        found = found | ((byte < 192) & (byte / 8 % 2 == 1));
-    }
-    found
+    some_below(n, |i| is_wide_by(memory[b + i]))
 }
 
 // Cell i of a stretch is of double height and has the three bytes of the cell above it. Without a jump, so that a loop over the cells
@@ -89,9 +104,5 @@ pub fn some_on(
 {
     let here = compared_by(z, y, first, third);
     let over = compared_by(z, above, first, third);
-    let mut found = false;
-    for i in 0..n {
-        found = found | goes_on_at(part, memory, here, over, i);
-    }
-    found
+    some_below(n, |i| goes_on_at(part, memory, here, over, i))
 }

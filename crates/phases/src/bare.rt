@@ -5,9 +5,11 @@ ghost use Rattle.page.specs.Marks.{marked_too};
 ghost use Rattle.reading.specs.Marks.{flash_in};
 ghost use Rattle.phases.specs.HowPhases.{flashes_in};
 
+use crate::rows::mark_where;
 use board::Part;
 use cell::decode::last_bichrome;
 use page::code::row_buffer;
+use page::stretch::some_below;
 use shown::Shown;
 use shown::page::Page;
 
@@ -30,21 +32,16 @@ fn row_flashes(memory: &[u8], shown: Shown, row: u8) -> bool
     let part = shown.part;
     let eighty = shown.is_eighty();
     let cells = row_buffer(&Page { memory, shown }, row);
-    let mut found = false;
-    for x in 0..40 {
-        let code = cells[x];
-        found = found | column_flashes(part, eighty, code[0], code[1], code[2]);
-    }
-    found
+    some_below(
+        40,
+        |x| column_flashes(part, eighty, cells[x][0], cells[x][1], cells[x][2]),
+    )
 }
 
 // The rows that flash, in either mode.
 pub fn bare_flash_in(marks: &mut [bool; 25], memory: &[u8], shown: Shown)
-    requires { (length marks.old ≡ 25) × (length memory.now ≡ bytes_of shown.blocks) }
+    requires { (length memory.now ≡ bytes_of shown.blocks) }
     ensures { marks.new ≡ marked_too (flash_in shown memory.now) marks.old }
 {
-    for r in 0..25usize {
-        let marked = marks[r];
-        marks[r] = marked | row_flashes(memory, shown, r as u8);
-    }
+    mark_where(marks, 0..25, |r| row_flashes(memory, shown, r));
 }

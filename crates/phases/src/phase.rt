@@ -7,15 +7,12 @@ ghost use Rattle.page.specs.HowCodes.{Has};
 ghost use Rattle.page.specs.Marks.{marked_too};
 ghost use Rattle.reading.specs.Marks.{flash_in, phase_marks};
 ghost use Rattle.asking.specs.HowAsked.{flash_at, pair_flash_at, blink_at};
-ghost use Rattle.marking.specs.HowMarked.{in_group};
 ghost use Rattle.phases.specs.HowPhases.{are_quiet};
 
 use crate::bare::bare_flash_in;
+use crate::rows::mark_where;
 use address::row::row_y;
-use asking::row::{
-    is_marked_or_blinks, is_marked_or_flashes, is_marked_or_pair_flashes, near_blinks,
-    service_is_marked_or_flashes,
-};
+use asking::row::{has_blink, has_flash, has_pair_flash, near_blinks};
 use board::Part;
 use page::code::is_fitted;
 use shown::Shown;
@@ -26,62 +23,46 @@ fn are_quiet(memory: &[u8], z: u8, y: u8, before: bool) -> bool
     requires { Has memory.now z 2 × (8 ≤ y) }
     ensures { result ≡ are_quiet memory.now z y before }
 {
-    if before {
-        return false;
-    }
-    if y > 28 {
-        return false;
-    }
-    !near_blinks(memory, z, y)
-}
-
-// Four rows from one on, of an EF9345. A row that is marked already is not asked. The marks are changed in place: as an array by value they would be taken apart.
-fn four_flash(marks: &mut [bool; 25], memory: &[u8], z: u8, yor: u8, first: usize)
-    requires { (length marks.old ≡ 25) × Has memory.now z 1 × Has memory.now z 2 × (first < 22) }
-    ensures { marks.new ≡ marked_too (λ r. in_group first (first + 4) r && flash_at Ef9345 memory.now z (row_y yor r)) marks.old }
-{
-    for r in first..first + 4 {
-        let marked = marks[r];
-        marks[r] = is_marked_or_flashes(memory, z, row_y(yor, r as u8), marked);
-    }
+    let asked = !before && y <= 28;
+    asked && !near_blinks(memory, z, y)
 }
 
 // The rows that flash, of an EF9345: the service row, and then four at a time.
 fn flash_in(marks: &mut [bool; 25], memory: &[u8], z: u8, yor: u8)
-    requires { (length marks.old ≡ 25) × Has memory.now z 1 × Has memory.now z 2 }
+    requires { Has memory.now z 1 × Has memory.now z 2 }
     ensures { marks.new ≡ marked_too (λ r. flash_at Ef9345 memory.now z (row_y yor r)) marks.old }
 {
-    let service = marks[0];
-    marks[0] = service_is_marked_or_flashes(memory, z, service);
+    mark_where(marks, 0..1, |r| has_flash(memory, z, row_y(yor, r)));
     for g in 0..6usize {
         let r = 1 + 4 * g;
-        let before = marks[r - 1];
-        if !are_quiet(memory, z, row_y(yor, r as u8), before) {
-            four_flash(marks, memory, z, yor, r);
+        if !are_quiet(memory, z, row_y(yor, r as u8), marks[r - 1]) {
+            mark_where(marks, r..r + 4, |r| has_flash(memory, z, row_y(yor, r)));
         }
     }
 }
 
-// The rows that flash in 80 columns. A row that is marked already is not asked.
+// The rows that flash in 80 columns.
 fn pair_flash_in(marks: &mut [bool; 25], memory: &[u8], z: u8, yor: u8)
-    requires { (length marks.old ≡ 25) × Has memory.now z 0 × Has memory.now z 1 × Has memory.now z 2 }
+    requires { Has memory.now z 0 × Has memory.now z 1 × Has memory.now z 2 }
     ensures { marks.new ≡ marked_too (λ r. pair_flash_at memory.now z (row_y yor r)) marks.old }
 {
-    for r in 0..25usize {
-        let marked = marks[r];
-        marks[r] = is_marked_or_pair_flashes(memory, z, row_y(yor, r as u8), marked);
-    }
+    mark_where(marks, 0..25, |r| has_pair_flash(memory, z, row_y(yor, r)));
 }
 
-// The rows that have a cell whose A3 is set: those that flash, of a TS9347. A row that is marked already is not asked.
+// A screen row has a cell whose A3 is set.
+fn row_blinks(memory: &[u8], z: u8, yor: u8, row: u8) -> bool
+    requires { Has memory.now z 2 }
+    ensures { result ≡ blink_at memory.now z (row_y yor row) }
+{
+    has_blink(memory, z, row_y(yor, row))
+}
+
+// The rows that have such a cell: those that flash, of a TS9347.
 fn blink_in(marks: &mut [bool; 25], memory: &[u8], z: u8, yor: u8)
-    requires { (length marks.old ≡ 25) × Has memory.now z 2 }
+    requires { Has memory.now z 2 }
     ensures { marks.new ≡ marked_too (λ r. blink_at memory.now z (row_y yor r)) marks.old }
 {
-    for r in 0usize..25 {
-        let marked = marks[r];
-        marks[r] = is_marked_or_blinks(memory, z, row_y(yor, r as u8), marked);
-    }
+    mark_where(marks, 0..25, |r| row_blinks(memory, z, yor, r));
 }
 
 // Where the page's third block is not fitted every A is 0, and nothing flashes in either mode.

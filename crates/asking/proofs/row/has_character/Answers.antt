@@ -1,14 +1,9 @@
-use native.Mathlib.Omega.{arith}
-use borrow.Author.Rules.{rules}
-use Rattle.asking.specs.HowAsked.{shows_character}
-use Rattle.asking.proofs.Rows.{lefts_fit, right_fits, one_row}
+use Rattle.std.proofs.Common.{rules, ◌∙◌}
+use Rattle.asking.specs.HowAsked.{shows_character, code_in}
+use Rattle.asking.proofs.Rows.{in_c, in_b, row_asked}
 use Rattle.asking.proofs.row.has_character.Goals as goal
 
-pub some_character-requires : goal.some_character-requires
-some_character-requires c = (search rules, search rules, lefts_fit _ 1 (omega arith))
-
-pub some_character-requires-2 : goal.some_character-requires-2
-some_character-requires-2 c = (search rules, search rules, right_fits _ c.requires.2)
-
 pub returns : goal.returns
-returns c = let s = c.args in one_row _ _ _ (shows_character s.t) _ _ c.some_character.ensures c.some_character-2.ensures
+returns c = let s = c.args in
+    let m = s.memory.now in
+    c.some_in_row.ensures (λ at. shows_character s.t (code_in m s.z at)) (λ at yes l said. let h = in_c m s.z at _ c.block_start-c.ensures in let b = in_b m s.z at _ c.block_start-b.ensures in search rules) ∙ row_asked (shows_character s.t) m s.z s.y

@@ -1,14 +1,11 @@
-use mathlib.Core.Path.{refl, sym, ◌∙◌}
+use Rattle.std.proofs.Common.{rules, ◌∙◌}
 use Rattle.board.specs.declared.Part.TheVariants.{Ef9345}
-use Rattle.page.specs.HowCodes.{code_of}
 use Rattle.page.specs.Inputs.{flashes}
-use Rattle.asking.proofs.Rows.{three_stretches}
+use Rattle.asking.specs.HowAsked.{code_in}
+use Rattle.asking.proofs.Rows.{in_b, in_a, row_asked}
 use Rattle.asking.proofs.row.has_flash.Goals as goal
-
-pub returns-then-some_flash : goal.returns-then-some_flash
-returns-then-some_flash c = let s = c.args in
-    three_stretches (λ x. flashes Ef9345 (code_of s.memory.now s.z s.y x)) _ _ _ (sym c.if-some_flash.true ∙ c.some_flash.ensures) refl refl
 
 pub returns : goal.returns
 returns c = let s = c.args in
-    three_stretches (λ x. flashes Ef9345 (code_of s.memory.now s.z s.y x)) _ _ _ (sym c.if-some_flash.false ∙ c.some_flash.ensures) c.some_flash-2.ensures c.some_flash-3.ensures
+    let m = s.memory.now in
+    c.some_in_row.ensures (λ at. flashes Ef9345 (code_in m s.z at)) (λ at yes l said. let b = in_b m s.z at _ c.block_start-b.ensures in let a = in_a m s.z at _ c.block_start-a.ensures in search rules) ∙ row_asked (flashes Ef9345) m s.z s.y

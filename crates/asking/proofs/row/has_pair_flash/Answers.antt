@@ -1,8 +1,11 @@
-use Rattle.page.specs.HowCodes.{code_of}
+use Rattle.std.proofs.Common.{rules, ◌∙◌}
 use Rattle.narrow.specs.Codes.{pair_flashes}
-use Rattle.page.proofs.Stretches.{row_stretches}
+use Rattle.asking.specs.HowAsked.{code_in}
+use Rattle.asking.proofs.Rows.{row_asked}
 use Rattle.asking.proofs.row.has_pair_flash.Goals as goal
 
 pub returns : goal.returns
+unfolding code_in
 returns c = let s = c.args in
-    row_stretches (λ x. pair_flashes (code_of s.memory.now s.z s.y x)) _ _ c.some_pair_flash.ensures c.some_pair_flash-2.ensures
+    let m = s.memory.now in
+    c.some_in_row.ensures (λ at. pair_flashes (code_in m s.z at)) (λ at yes l said. search rules) ∙ row_asked pair_flashes m s.z s.y

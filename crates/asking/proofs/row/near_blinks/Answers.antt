@@ -1,14 +1,9 @@
-use native.Mathlib.Omega.{arith}
-use borrow.Author.Rules.{rules}
-use Rattle.asking.specs.HowAsked.{blinks}
-use Rattle.asking.proofs.Rows.{lefts_fit, rights_fit, several_rows}
+use Rattle.std.proofs.Common.{rules, ◌∙◌}
+use Rattle.asking.specs.HowAsked.{blinks, code_in}
+use Rattle.asking.proofs.Rows.{in_a, rows_asked}
 use Rattle.asking.proofs.row.near_blinks.Goals as goal
 
-pub some_blink-requires : goal.some_blink-requires
-some_blink-requires c = (search rules, omega (arith, lefts_fit c.args.y 4 (omega arith)))
-
-pub some_blink-requires-2 : goal.some_blink-requires-2
-some_blink-requires-2 c = (search rules, omega (arith, rights_fit c.args.y 4 (omega arith) c.requires.1))
-
 pub returns : goal.returns
-returns c = several_rows _ _ _ blinks 4 _ _ c.requires.1 c.some_blink.ensures c.some_blink-2.ensures
+returns c = let s = c.args in
+    let m = s.memory.now in
+    c.some_in_rows.ensures (λ at. blinks (code_in m s.z at)) (λ at yes l said. let a = in_a m s.z at _ c.block_start-a.ensures in search rules) ∙ rows_asked blinks m s.z s.y 4

@@ -1,14 +1,9 @@
-use native.Mathlib.Omega.{arith}
-use borrow.Author.Rules.{rules}
-use Rattle.asking.specs.HowAsked.{shows_character}
-use Rattle.asking.proofs.Rows.{lefts_fit, rights_fit, several_rows}
+use Rattle.std.proofs.Common.{rules, ◌∙◌}
+use Rattle.asking.specs.HowAsked.{shows_character, code_in}
+use Rattle.asking.proofs.Rows.{in_c, in_b, rows_asked}
 use Rattle.asking.proofs.row.near_has.Goals as goal
 
-pub some_character-requires : goal.some_character-requires
-some_character-requires c = (search rules, search rules, lefts_fit _ 2 (omega arith))
-
-pub some_character-requires-2 : goal.some_character-requires-2
-some_character-requires-2 c = (search rules, search rules, rights_fit _ 2 (omega arith) c.requires.2)
-
 pub returns : goal.returns
-returns c = several_rows _ _ _ (shows_character c.args.t) 2 _ _ c.requires.2 c.some_character.ensures c.some_character-2.ensures
+returns c = let s = c.args in
+    let m = s.memory.now in
+    c.some_in_rows.ensures (λ at. shows_character s.t (code_in m s.z at)) (λ at yes l said. let h = in_c m s.z at _ c.block_start-c.ensures in let b = in_b m s.z at _ c.block_start-b.ensures in search rules) ∙ rows_asked (shows_character s.t) m s.z s.y 2

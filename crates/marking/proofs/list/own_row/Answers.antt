@@ -15,4 +15,4 @@ pub bounds-marks-r-2 : goal.bounds-marks-r-2
 bounds-marks-r-2 c = omega (arith, c.row_at-r.ensures, row_at_small c.args.yor c.args.y)
 
 pub returns : goal.returns
-returns c = one_marked _ _ _ _ c.requires (omega (arith, c.row_at-r.ensures, row_at_small c.args.yor c.args.y)) refl ∙ ap₂ (λ (k : ℕ) (t : Bool). marked_too (λ i. eqb i k && t) c.args.marks.now) c.row_at-r.ensures c.some_code_block.ensures
+returns c = one_marked _ _ _ _ c.told-marks (omega (arith, c.row_at-r.ensures, row_at_small c.args.yor c.args.y)) refl ∙ ap₂ (λ (k : ℕ) (t : Bool). marked_too (λ i. eqb i k && t) c.args.marks.now) c.row_at-r.ensures c.some_code_block.ensures

@@ -15,7 +15,7 @@ use Rattle.marking.proofs.list.reach.Goals as goal
 pub loop-r-init : goal.loop-r-init
 loop-r-init c = let s = c.args in
     let tall : ℕ → Bool = λ i. tall_at s.part s.memory.now s.z (row_y s.yor i) in
-    (omega arith, omega arith, reach_begins tall s.row s.marks.now _ (reach_start tall s.row _ c.requires.0 (omega arith)), falls_next tall s.row s.row (omega arith) (falls_own tall s.row))
+    (omega arith, omega arith, reach_begins tall s.row s.marks.now _ (reach_start tall s.row _ c.told-marks (omega arith)), falls_next tall s.row s.row (omega arith) (falls_own tall s.row))
 
 pub has_tall-requires : goal.has_tall-requires
 has_tall-requires c = (search rules, rw c.row_y.ensures (row_small _ _))
@@ -25,7 +25,7 @@ returns-then-not-has_tall c = let s = c.args in
     let tall : ℕ → Bool = λ i. tall_at s.part s.memory.now s.z (row_y s.yor i) in
     let t = row_asked (tall_at s.part s.memory.now s.z) _ _ _ c.has_tall.ensures c.row_y.ensures in
     let off = reach_off tall s.row s.marks.now c.loop-r.r _ c.loop-r.invariant.3 t (ap not c.if-not-has_tall.true) in
-    reach_ends tall s.row s.marks.now _ _ (reach_start tall s.row _ c.requires.0 (omega arith)) (reach_left tall s.row _ _ _ c.loop-r.invariant.2 c.loop-r.invariant.0 off)
+    reach_ends tall s.row s.marks.now _ _ (reach_start tall s.row _ c.told-marks (omega arith)) (reach_left tall s.row _ _ _ c.loop-r.invariant.2 c.loop-r.invariant.0 off)
 
 pub loop-r-preserved : goal.loop-r-preserved
 loop-r-preserved c = let s = c.args in
@@ -37,4 +37,4 @@ loop-r-preserved c = let s = c.args in
 pub returns : goal.returns
 returns c = let s = c.args in
     let tall : ℕ → Bool = λ i. tall_at s.part s.memory.now s.z (row_y s.yor i) in
-    reach_ends tall s.row s.marks.now _ _ (reach_start tall s.row _ c.requires.0 (omega arith)) (below_end (falls_to tall s.row) _ _ _ c.loop-r.invariant.2 (λ i l h. absurd (omega arith)))
+    reach_ends tall s.row s.marks.now _ _ (reach_start tall s.row _ c.told-marks (omega arith)) (below_end (falls_to tall s.row) _ _ _ c.loop-r.invariant.2 (λ i l h. absurd (omega arith)))

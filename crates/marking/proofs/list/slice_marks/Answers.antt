@@ -1,12 +1,10 @@
-use lib.ListN.{length}
 use Prim.Native.Nat.{ℕ, ◌+◌, ◌*◌}
 use mathlib.Core.Bool.{Bool}
-use mathlib.Core.Path.{ap, ◌∙◌}
+use mathlib.Core.Path.{◌∙◌}
 use native.Mathlib.Omega.{arith}
 use Rattle.address.specs.Rows.{row_y}
 use Rattle.address.proofs.Laws.{row_small}
 use Rattle.asking.specs.HowAsked.{keyed_at}
-use Rattle.reading.proofs.Marking.{marked_long}
 use Rattle.marking.proofs.Loops.{begun_by_y, up_begins, up_ends, up_asked, up_left, up_end}
 use borrow.Author.Rules.{rules}
 use Rattle.asking.proofs.Rows.{none_keyed}
@@ -19,7 +17,7 @@ loop-g-init c = let s = c.args in
     (omega arith, up_begins k s.marks.now (row_y s.yor) 8 _ (begun_by_y k s.marks.now _ s.yor c.service_marks.ensures))
 
 pub group_marks-requires : goal.group_marks-requires
-group_marks-requires c = (ap length c.loop-g.invariant.1 ∙ marked_long _ _, search rules, search rules, omega arith, omega arith, search rules)
+group_marks-requires c = (search rules, search rules, omega arith, omega arith, search rules)
 
 pub returns : goal.returns
 returns c = let s = c.args in
@@ -37,6 +35,6 @@ loop-g-preserved c =
         | else-near_has w ↦
             w.marks-is
             ∙ up_left k _ (row_y s.yor) 2 (8 + 2 * l.g) _ _ (omega arith) l.invariant.1
-            (none_keyed s.keys c.requires.3 _ _ _ 2 _ c.near_has.ensures w.if-near_has.false)
+            (none_keyed s.keys c.requires.2 _ _ _ 2 _ c.near_has.ensures w.if-near_has.false)
       ],
     )

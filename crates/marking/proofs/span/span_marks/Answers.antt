@@ -1,5 +1,5 @@
 use lib.Dec.{ltb}
-use Rattle.marking.proofs.Changes.{here_fits, block_fits, changed_fits, changed_if_fits, changed_at, changed_if_at, span_changes, changes_none}
+use Rattle.marking.proofs.Changes.{here_fits, block_fits, changed_fits, changed_if_fits, changed_at, changed_if_at, span_changes}
 use Rattle.address.proofs.Laws.{legal_page, legal_block}
 use borrow.Author.Tests.{ltb-true}
 use native.Mathlib.Omega.{arith}
@@ -27,11 +27,10 @@ changed_if-requires-2 c = let board = c.args.shown.blocks in (
   λ t. block_fits board _ (block_at c.args.at 2) (c.requires.4 2 (ltb-true _ _ t)) c.block-3.ensures,
 )
 
-pub change_marks-requires : goal.change_marks-requires
-change_marks-requires c = let board = c.args.shown.blocks in
+pub marks_after-requires : goal.marks_after-requires
+marks_after-requires c = let board = c.args.shown.blocks in
     let t = c.args.at in
     let first = c.requires.4 0 (omega arith) in (
-      search rules,
       c.requires.0,
       legal_page board (block_at t 0) first,
       (
@@ -41,20 +40,9 @@ change_marks-requires c = let board = c.args.shown.blocks in
       ),
     )
 
-pub returns-then-some_changed : goal.returns-then-some_changed
-returns-then-some_changed c = let a = c.args in
-    c.change_marks.ensures
-    ∙ sym
-    (span_changes a.shown a.memory.now a.marks (search rules) a.at a.bytes _ _ _ _ _ _
-    (λ k l. omega (arith, legal_block a.shown.blocks (block_at a.at k) (c.requires.4 k l), c.well_formed.1.0))
-    (changed_at a.memory.now a.at.x a.at.y (block_of a.at.z 0) _ _ _ _ c.requires.1 c.block.ensures c.changed_block.ensures.0)
-    (changed_if_at a.memory.now a.at.x a.at.y (block_of a.at.z 1) a.b _ _ _ (ltb 1 a.bytes) c.requires.1 c.block-2.ensures c.changed_if.ensures.0)
-    (changed_if_at a.memory.now a.at.x a.at.y (block_of a.at.z 2) a.a _ _ _ (ltb 2 a.bytes) c.requires.1 c.block-3.ensures c.changed_if-2.ensures.0)
-    c.requires.2 c.requires.3)
-
-pub returns-else-some_changed : goal.returns-else-some_changed
-returns-else-some_changed c = let a = c.args in
-    changes_none a.shown a.memory.now a.marks (search rules) a.at.x a.at.y _ _ c.some_changed.ensures c.if-some_changed.false
+pub returns : goal.returns
+returns c = let a = c.args in
+    c.marks_after.ensures
     ∙ sym
     (span_changes a.shown a.memory.now a.marks (search rules) a.at a.bytes _ _ _ _ _ _
     (λ k l. omega (arith, legal_block a.shown.blocks (block_at a.at k) (c.requires.4 k l), c.well_formed.1.0))

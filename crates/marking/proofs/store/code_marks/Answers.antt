@@ -2,7 +2,7 @@ use Rattle.address.specs.Places.{block_at, block_of}
 use mathlib.Core.Path.{sym, ◌∙◌}
 use native.Mathlib.Omega.{arith}
 use Rattle.address.proofs.Laws.{legal_page, legal_block}
-use Rattle.marking.proofs.Changes.{here_fits, block_fits, changed_fits, changed_at, code_changes, changes_none}
+use Rattle.marking.proofs.Changes.{here_fits, block_fits, changed_fits, changed_at, code_changes}
 use borrow.Author.Rules.{rules}
 use Rattle.marking.proofs.store.code_marks.Goals as goal
 
@@ -23,12 +23,11 @@ changed_block-requires-3 c = let board = c.args.shown.blocks in
       omega (arith, c.block-3.ensures, second, third),
     )
 
-pub change_marks-requires : goal.change_marks-requires
-change_marks-requires c = let board = c.args.shown.blocks in
+pub marks_after-requires : goal.marks_after-requires
+marks_after-requires c = let board = c.args.shown.blocks in
     let t = c.args.at in
     let second = legal_block board (block_at t 1) c.requires.3 in
     let third = legal_block board (block_at t 2) c.requires.4 in (
-      search rules,
       c.requires.0,
       legal_page board (block_at t 0) c.requires.2,
       (
@@ -38,26 +37,10 @@ change_marks-requires c = let board = c.args.shown.blocks in
       ),
     )
 
-pub returns-then-some_changed : goal.returns-then-some_changed
-returns-then-some_changed c = let a = c.args in
+pub returns : goal.returns
+returns c = let a = c.args in
     let third = legal_block a.shown.blocks (block_at a.at 2) c.requires.4 in
-    c.change_marks.ensures
-    ∙ sym
-    (code_changes a.shown a.memory.now a.marks (search rules) a.at _ _ _ _ _ _
-    (omega (arith, c.block.ensures, c.changed_block.ensures.1))
-    (omega (arith, c.block-2.ensures, c.changed_block-2.ensures.1))
-    (omega (arith, third, c.well_formed.1.0))
-    (changed_at a.memory.now a.at.x a.at.y (block_of a.at.z 0) _ _ _ _ c.requires.1
-    (omega (arith, c.block.ensures)) c.changed_block.ensures.0)
-    (changed_at a.memory.now a.at.x a.at.y (block_of a.at.z 1) _ _ _ _ c.requires.1
-    (omega (arith, c.block-2.ensures)) c.changed_block-2.ensures.0)
-    (changed_at a.memory.now a.at.x a.at.y (block_of a.at.z 2) _ _ _ _ c.requires.1
-    (omega (arith, c.block-3.ensures)) c.changed_block-3.ensures.0))
-
-pub returns-else-some_changed : goal.returns-else-some_changed
-returns-else-some_changed c = let a = c.args in
-    let third = legal_block a.shown.blocks (block_at a.at 2) c.requires.4 in
-    changes_none a.shown a.memory.now a.marks (search rules) a.at.x a.at.y _ _ c.some_changed.ensures c.if-some_changed.false
+    c.marks_after.ensures
     ∙ sym
     (code_changes a.shown a.memory.now a.marks (search rules) a.at _ _ _ _ _ _
     (omega (arith, c.block.ensures, c.changed_block.ensures.1))

@@ -4,7 +4,7 @@ use native.Mathlib.Omega.{arith}
 use Rattle.address.specs.Narrow.{attributes_at}
 use Rattle.address.specs.declared.triple.Triple.{Triple}
 use Rattle.address.proofs.Laws.{legal_page, legal_block}
-use Rattle.marking.proofs.Changes.{here_fits, changed_fits, changed_at, narrow_changes, changes_none}
+use Rattle.marking.proofs.Changes.{here_fits, changed_fits, changed_at, narrow_changes}
 use borrow.Author.Rules.{rules}
 use Rattle.marking.proofs.store.narrow_marks.Goals as goal
 
@@ -16,11 +16,10 @@ pub changed_block-requires-2 : goal.changed_block-requires-2
 changed_block-requires-2 c = let board = c.args.shown.blocks in
     (c.requires.0, here_fits board c.args.at _ c.requires.1 c.place_at-here.ensures, omega (arith, ap (λ (t : Triple). t.z) c.attributes_at-attributes.ensures, legal_block board c.args.at c.requires.1, legal_block board (attributes_at c.args.at) c.requires.2))
 
-pub change_marks-requires : goal.change_marks-requires
-change_marks-requires c = let board = c.args.shown.blocks in
+pub marks_after-requires : goal.marks_after-requires
+marks_after-requires c = let board = c.args.shown.blocks in
     let attributes = ap (λ (t : Triple). t.z) c.attributes_at-attributes.ensures in
     let first = legal_block board c.args.at c.requires.1 in (
-      search rules,
       c.requires.0,
       legal_page board c.args.at c.requires.1,
       (
@@ -30,19 +29,9 @@ change_marks-requires c = let board = c.args.shown.blocks in
       ),
     )
 
-pub returns-then-some_changed : goal.returns-then-some_changed
-returns-then-some_changed c = let a = c.args in
-    c.change_marks.ensures
-    ∙ sym
-    (narrow_changes a.shown a.memory.now a.marks (search rules) a.at _ _ _ _ c.changed_block.ensures.1
-    (omega (arith, ap (λ (t : Triple). t.z) c.attributes_at-attributes.ensures, c.changed_block-2.ensures.1))
-    (changed_at a.memory.now a.at.x a.at.y a.at.z _ _ _ _ c.place_at-here.ensures refl c.changed_block.ensures.0)
-    (changed_at a.memory.now a.at.x a.at.y (attributes_at a.at).z _ _ _ _ c.place_at-here.ensures
-    (omega (arith, ap (λ (t : Triple). t.z) c.attributes_at-attributes.ensures)) c.changed_block-2.ensures.0))
-
-pub returns-else-some_changed : goal.returns-else-some_changed
-returns-else-some_changed c = let a = c.args in
-    changes_none a.shown a.memory.now a.marks (search rules) a.at.x a.at.y _ _ c.some_changed.ensures c.if-some_changed.false
+pub returns : goal.returns
+returns c = let a = c.args in
+    c.marks_after.ensures
     ∙ sym
     (narrow_changes a.shown a.memory.now a.marks (search rules) a.at _ _ _ _ c.changed_block.ensures.1
     (omega (arith, ap (λ (t : Triple). t.z) c.attributes_at-attributes.ensures, c.changed_block-2.ensures.1))

@@ -1,7 +1,7 @@
 use mathlib.Core.Logic.{inl}
 use mathlib.Core.Path.{refl, sym, ◌∙◌}
 use Rattle.address.proofs.Laws.{legal_page, legal_block}
-use Rattle.marking.proofs.Changes.{here_fits, changed_fits, changed_at, store_changes, changes_none}
+use Rattle.marking.proofs.Changes.{here_fits, changed_fits, changed_at, store_changes}
 use borrow.Author.Rules.{rules}
 use Rattle.marking.proofs.store.store_marks.Goals as goal
 
@@ -9,9 +9,8 @@ pub changed_block-requires : goal.changed_block-requires
 changed_block-requires c = let board = c.args.shown.blocks in
     (c.requires.0, here_fits board c.args.at _ c.requires.1 c.place_at-here.ensures, legal_block board c.args.at c.requires.1)
 
-pub change_marks-requires : goal.change_marks-requires
-change_marks-requires c = let board = c.args.shown.blocks in (
-  search rules,
+pub marks_after-requires : goal.marks_after-requires
+marks_after-requires c = let board = c.args.shown.blocks in (
   c.requires.0,
   legal_page board c.args.at c.requires.1,
   (
@@ -21,16 +20,9 @@ change_marks-requires c = let board = c.args.shown.blocks in (
   ),
 )
 
-pub returns-then-some_changed : goal.returns-then-some_changed
-returns-then-some_changed c = let a = c.args in
-    c.change_marks.ensures
-    ∙ sym
-    (store_changes a.shown a.memory.now a.marks (search rules) a.at.x a.at.y a.at.z _ c.changed_block.ensures.1 _
-    (changed_at a.memory.now a.at.x a.at.y a.at.z _ _ _ _ c.place_at-here.ensures refl c.changed_block.ensures.0))
-
-pub returns-else-some_changed : goal.returns-else-some_changed
-returns-else-some_changed c = let a = c.args in
-    changes_none a.shown a.memory.now a.marks (search rules) a.at.x a.at.y _ _ c.some_changed.ensures c.if-some_changed.false
+pub returns : goal.returns
+returns c = let a = c.args in
+    c.marks_after.ensures
     ∙ sym
     (store_changes a.shown a.memory.now a.marks (search rules) a.at.x a.at.y a.at.z _ c.changed_block.ensures.1 _
     (changed_at a.memory.now a.at.x a.at.y a.at.z _ _ _ _ c.place_at-here.ensures refl c.changed_block.ensures.0))

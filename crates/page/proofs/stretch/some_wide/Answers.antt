@@ -1,22 +1,14 @@
-use Prim.Native.Nat.{◌+◌}
-use mathlib.Core.Path.{◌≡◌, refl, ap, ◌∙◌}
+use Rattle.std.proofs.Common.{rules, ◌+◌, ◌≤◌, length}
 use native.Mathlib.Omega.{arith}
-use Rattle.basics.specs.Below.{any_below}
-use Rattle.basics.proofs.Below.{gathered}
-use Rattle.page.proofs.Stretches.{stretch_fits, stretch_b, wide_test}
+use Rattle.page.proofs.Stretches.{stretch_fits, stretch_b}
 use Rattle.page.proofs.stretch.some_wide.Goals as goal
 
-pub loop-i-init : goal.loop-i-init
-unfolding any_below
-loop-i-init c = let p = c.requires in
-    (omega arith, stretch_fits c.args.memory.now _ _ _ _ 1 _ c.start-b.ensures p.0 p.1 p.2 p.3, refl)
-
-pub loop-i-preserved : goal.loop-i-preserved
-loop-i-preserved c = let l = c.loop-i in
-    let s = c.args in
-    (omega arith, l.invariant.1, gathered _ _ _ _ l.invariant.2 (wide_test _ _ (omega (arith, c.shared_slice_known-in-loop-i-1.given (c.start-b.result + l.i))) (stretch_b s.first l.i (omega arith) (omega arith) _ _ _ _ c.start-b.ensures)))
+pub some_below-requires : goal.some_below-requires
+some_below-requires c = let s = c.args in
+    let p = c.requires in
+    let fit : c.start-b.result + s.n ≤ length s.memory.now = stretch_fits s.memory.now _ _ _ _ 1 _ c.start-b.ensures p.0 p.1 p.2 p.3 in
+    search rules
 
 pub returns : goal.returns
-returns c = let l = c.loop-i in
-    let e : l.i ≡ c.args.n = omega arith in
-    l.invariant.2 ∙ ap (any_below _) e
+returns c = let s = c.args in
+    c.some_below.ensures _ (λ i yes l said. let b = stretch_b s.first i (omega arith) (omega arith) s.memory.now s.y s.z _ c.start-b.ensures in search rules)

@@ -1,18 +1,13 @@
-use mathlib.Core.List.{[]}
-use mathlib.Core.Path.{refl, ◌∙◌}
-use native.Mathlib.Omega.{arith}
+use Rattle.std.proofs.Common.{rules, refl, []}
 use lib.ListN.{get_or}
-use Rattle.basics.specs.Below.{any_below}
-use Rattle.basics.proofs.Below.{gathered}
+use Rattle.phases.specs.HowPhases.{flashes_in}
 use Rattle.phases.proofs.Ends.{by_bytes, row_flashed}
 use Rattle.phases.proofs.bare.row_flashes.Goals as goal
 
-pub loop-x-init : goal.loop-x-init
-unfolding any_below
-loop-x-init c = (omega arith, refl)
-
-pub loop-x-preserved : goal.loop-x-preserved
-loop-x-preserved c = (omega arith, gathered _ _ _ _ c.loop-x.invariant.1 (c.column_flashes-found.ensures ∙ by_bytes c.args.shown.part c.is_eighty-eighty.result (get_or c.row_buffer-cells.result c.loop-x.x [])))
-
 pub returns : goal.returns
-returns c = row_flashed _ _ _ _ _ _ _ c.loop-x.invariant.1 (omega arith) c.row_buffer-cells.ensures c.is_eighty-eighty.ensures
+returns c = let part = c.args.shown.part in
+    let eighty = c.is_eighty-eighty.result in
+    let cells = c.row_buffer-cells.result in
+    row_flashed _ _ _ _ 40 _ _
+    (c.some_below.ensures (λ i. flashes_in part eighty (get_or cells i [])) (λ i yes l said. let same = by_bytes part eighty (get_or cells i []) in search rules))
+    refl c.row_buffer-cells.ensures c.is_eighty-eighty.ensures

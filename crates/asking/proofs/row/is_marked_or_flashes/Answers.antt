@@ -1,7 +1,0 @@
-use Rattle.asking.proofs.row.is_marked_or_flashes.Goals as goal
-
-pub returns-then-marked : goal.returns-then-marked
-returns-then-marked c = rw c.if-marked.true
-
-pub returns : goal.returns
-returns c = rw c.if-marked.false c.has_flash.ensures
