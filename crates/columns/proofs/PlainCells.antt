@@ -6,15 +6,13 @@ use mathlib.Core.Bool.{Bool, true, false, not, ◌&&◌}
 use mathlib.Core.List.{List}
 use native.Mathlib.Omega.{arith}
 use lib.Dec.{ltb, eqb}
-use lib.ListN.{length, get_or, take, drop, length-drop}
-use lib.Seq.{length-take-le, get_or-take, get_or-drop, ext_get_or}
+use lib.ListN.{length, get_or, take, drop}
 use borrow.Author.Tests.{lt-ltb, ne_eqb, ltb-true, eqb-true}
 use Rattle.basics.specs.Bits.{is_set}
 use Rattle.basics.specs.Parts.{table}
 use Rattle.basics.proofs.Choice.{and_left, and_right}
-use Rattle.basics.proofs.Parts.{length_table, table_at}
-use Rattle.board.specs.declared.Part.{Part}
-use Rattle.board.specs.declared.Part.TheVariants.{Ef9345, Ts9347}
+use Rattle.basics.proofs.Made.{table_copied}
+use Rattle.basics.proofs.Parts.{length_table, table_same}
 use Rattle.shown.specs.declared.Shown.{Shown}
 use Rattle.shown.specs.Lengths.{rom_bytes}
 use Rattle.cell.specs.declared.kind.Cell.{Cell}
@@ -26,26 +24,9 @@ use Rattle.sources.specs.HowSources.{set_number}
 use Rattle.sources.proofs.CellSources.{set_plain, set_fits}
 use Rattle.page.specs.Inputs.{decoded}
 use Rattle.sources.specs.declared.source.Source.{Source}
-use Rattle.columns.specs.HowColumns.{put_at}
 use Rattle.columns.specs.HowTens.{is_plain, ten_of}
 use Rattle.slices.proofs.Slices.{shown_single}
 use Rattle.columns.proofs.Tens.{ten_whole}
-
--- no ROM has more than five
-rom_most : (part : Part) → rom_bytes part ≤ 6400
-rom_most Ef9345 = omega arith
-rom_most Ts9347 = omega arith
-
-pub set_small : (part : Part) (high : ℕ) → high < 8 → set_number part high ≤ 4
-set_small part high l = omega (arith, set_fits part high l, rom_most part)
-
--- where its slices start, and that there are ten
-pub start_fits : (part : Part) (c b first : ℕ) → first ≡ set_number part (b / 16 % 8) * 1280 + c % 128 * 10 → first + 10 ≤ rom_bytes part
-start_fits part c b first e = omega (arith, e, set_fits part (b / 16 % 8) (omega arith))
-
--- and that the sum is small
-pub start_small : (part : Part) (c b first : ℕ) → first ≡ set_number part (b / 16 % 8) * 1280 + c % 128 * 10 → first + 10 ≤ 6400
-start_small part c b first e = omega (arith, start_fits part c b first e, rom_most part)
 
 module _ (m rom : List ℕ) (shown : Shown) (code : List ℕ) (plain : is_plain (get_or code 1 0) ≡ true) where
   abbrev b : ℕ
@@ -70,43 +51,42 @@ module _ (m rom : List ℕ) (shown : Shown) (code : List ℕ) (plain : is_plain 
   abbrev cell : Cell
   cell = Bichrome (bichrome_of shown.part (get_or code 0 0) b (get_or code 2 0))
 
-  -- slice n, at the place that the code has
-  slice_is :
-      (first n : ℕ) → first ≡ set_number shown.part (b / 16 % 8) * 1280 + get_or code 0 0 % 128 * 10 → get_or rom (first + n) 0 ≡ slices_of m rom shown cell n
-  unfolding slices_of rom_slice bichrome_of
-  slice_is first n e =
-      let same : first + n ≡ 1280 * set_number shown.part (b / 16 % 8) + 10 * (get_or code 0 0 % 128) + n = omega (arith, e) in
-      ap (λ (i : ℕ). get_or rom i 0) same
-      ∙ ap (λ (s : Source). slice_from shown.blocks m rom (get_or code 0 0) s n) (sym (set_plain shown.part shown refl b below))
+  abbrev set : ℕ
+  set = set_number shown.part (b / 16 % 8)
 
-  slices_are :
-      (first : ℕ) → first ≡ set_number shown.part (b / 16 % 8) * 1280 + get_or code 0 0 % 128 * 10 → length rom ≡ rom_bytes shown.part
-      → take 10 (drop first rom) ≡ table (slices_of m rom shown cell) 10
-  slices_are first e h =
-      let fits = start_fits shown.part (get_or code 0 0) b first e in
-      let long : length (take 10 (drop first rom)) ≡ 10 = length-take-le 10 (drop first rom) (rw length-drop (omega (arith, h, fits))) in
-      ext_get_or 0 (take 10 (drop first rom)) _ (long ∙ sym (length_table (slices_of m rom shown cell) 10))
-      (λ n l.
-      let k : n < 10 = omega (arith, long) in
-      get_or-take 10 (drop first rom) n 0 k ∙ get_or-drop first rom n 0 ∙ slice_is first n e ∙ sym (table_at (slices_of m rom shown cell) 10 n 0 k))
+  -- its set is in the ROM
+  pub set_whole : length rom ≡ rom_bytes shown.part → 1280 * set + 1280 ≤ length rom
+  set_whole h = omega (arith, h, set_fits shown.part (b / 16 % 8) (omega arith))
 
-  pub plain_ten :
-      (lower right : Bool) (first : ℕ) → first ≡ set_number shown.part (b / 16 % 8) * 1280 + get_or code 0 0 % 128 * 10 → length rom ≡ rom_bytes shown.part
-      → ((i : ℕ) → get_or m i 0 < 256) → ((i : ℕ) → get_or rom i 0 < 256) → take 10 (drop first rom) ≡ ten_of m rom shown (decoded shown.part code) lower right
+  slices_are : table (rom_slice rom (get_or code 0 0) set) 10 ≡ table (slices_of m rom shown cell) 10
+  unfolding slices_of bichrome_of
+  slices_are =
+      table_same _ _ 10
+      (λ n l. ap (λ (s : Source). slice_from shown.blocks m rom (get_or code 0 0) s n) (sym (set_plain shown.part shown refl b below)))
+
+  -- the ten slices of it are its ten bytes
+  pub plain_slices :
+      (lower right : Bool) (ten : List ℕ) → ten ≡ table (rom_slice rom (get_or code 0 0) set) 10
+      → ((i : ℕ) → get_or m i 0 < 256) → ((i : ℕ) → get_or rom i 0 < 256) → ten ≡ ten_of m rom shown (decoded shown.part code) lower right
   unfolding bichrome_of
-  plain_ten lower right first e h m-small rom-small =
-      let slices = slices_are first e h in
-      let long : length (take 10 (drop first rom)) ≡ 10 = ap length slices ∙ length_table (slices_of m rom shown cell) 10 in
+  plain_slices lower right ten e m-small rom-small =
+      let slices : ten ≡ table (slices_of m rom shown cell) 10 = e ∙ slices_are in
+      let long : length ten ≡ 10 = ap length slices ∙ length_table (slices_of m rom shown cell) 10 in
       ten_whole m rom shown cell lower right _ _
       (shown_single (bichrome_of shown.part (get_or code 0 0) b (get_or code 2 0)) lower _ (ne_eqb (b / 2 % 2) 1 (λ q. omega (arith, single))) long)
       slices m-small rom-small long single_wide
       ∙ ap (λ (z : Cell). ten_of m rom shown z lower right) (cell_bichrome shown.part (get_or code 0 0) b (get_or code 2 0) (omega (arith, below)) (below_last shown.part b (omega (arith, below))))
 
--- ten bytes put among those of the other cells, by the length that the code has
-pub put_plain :
-    (tens after part ten : List ℕ) (x : ℕ) → after ≡ table (put_at tens x part) (40 * length part) → part ≡ ten → length ten ≡ 10 → after ≡ table (put_at tens x ten) 400
-put_plain tens after part ten x e p h =
-    e ∙ ap (λ (z : List ℕ). table (put_at tens x z) (40 * length z)) p ∙ ap (λ (n : ℕ). table (put_at tens x ten) (40 * n)) h
+  -- and they stand side by side
+  pub plain_ten :
+      (lower right : Bool) (first : ℕ) → first ≡ set_number shown.part (b / 16 % 8) * 1280 + get_or code 0 0 % 128 * 10 → length rom ≡ rom_bytes shown.part
+      → ((i : ℕ) → get_or m i 0 < 256) → ((i : ℕ) → get_or rom i 0 < 256) → take 10 (drop first rom) ≡ ten_of m rom shown (decoded shown.part code) lower right
+  unfolding rom_slice
+  plain_ten lower right first e h m-small rom-small =
+      plain_slices lower right _
+      (table_copied (rom_slice rom (get_or code 0 0) set) rom _ first 10 10 0 refl refl (omega (arith, e, set_whole h))
+      (λ n l. let same : first + n ≡ 1280 * set + 10 * (get_or code 0 0 % 128) + n = omega (arith, e) in ap (λ (i : ℕ). get_or rom i 0) same))
+      m-small rom-small
 
 pub ten_long : (m rom : List ℕ) (shown : Shown) (cell : Cell) (lower right : Bool) → length (ten_of m rom shown cell lower right) ≡ 10
 unfolding ten_of

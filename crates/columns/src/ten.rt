@@ -1,19 +1,18 @@
 // The ten bytes of a cell, one for each of its lines: the slice that the line shows, and of it the half that is shown.
-ghost use Rattle.std.specs.Prelude.{◌≡◌, ◌<◌, length};
+ghost use Rattle.std.specs.Prelude.{◌≡◌, length};
 ghost use Rattle.basics.specs.Parts.{table};
 ghost use Rattle.board.specs.Boards.{bytes_of};
 ghost use Rattle.shown.specs.Lengths.{rom_bytes};
 ghost use Rattle.page.specs.Inputs.{decoded};
-ghost use Rattle.columns.specs.HowColumns.{put_at};
 ghost use Rattle.columns.specs.HowTens.{doubled_of, ten_of, tens_of};
 
 use crate::column::put_column;
-use crate::plain::{is_plain, rom_start};
+use crate::plain::is_plain;
 use page::code::is_wide;
 use pixels::width::doubled;
 use shown::Shown;
 use slices::slice::shown_slices;
-use sources::source::slices_of;
+use sources::source::{rom_set, rom_slices, slices_of};
 use std::array;
 
 // Of each of ten slices the half that is shown.
@@ -23,6 +22,7 @@ pub fn doubled_slices(right: bool, slices: [u8; 10]) -> [u8; 10]
     array::from_fn(|n| doubled(right, slices[n]))
 }
 
+// The ten bytes of a cell. Those of a plain one are its slices, as they stand in the ROM.
 pub fn ten_of(
     memory: &[u8],
     rom: &[u8],
@@ -35,35 +35,14 @@ pub fn ten_of(
     ensures { result ≡ ten_of memory.now rom.now shown (decoded shown.part code) lower right }
 {
     let part = shown.part;
+    if is_plain(code[1]) {
+        return rom_slices(rom, code[0], rom_set(part, code[1]));
+    }
     let slices = shown_slices(part, code, lower, slices_of(memory, rom, shown, code));
     if is_wide(code) {
         return doubled_slices(right, slices);
     }
     slices
-}
-
-// The ten bytes of cell x put among those of the others.
-fn put_ten(
-    tens: &mut [u8],
-    x: usize,
-    memory: &[u8],
-    rom: &[u8],
-    shown: Shown,
-    code: [u8; 3],
-    lower: bool,
-    right: bool,
-)
-    requires { (length tens.old ≡ 400) × (x < 40) × (length memory.now ≡ bytes_of shown.blocks) × (length rom.now ≡ rom_bytes shown.part) }
-    ensures { tens.new ≡ table (put_at tens.old x (ten_of memory.now rom.now shown (decoded shown.part code) lower right)) 400 }
-{
-    let part = shown.part;
-    if is_plain(code[1]) {
-        let first = rom_start(part, code[0], code[1]);
-        put_column(tens, x, &rom[first..first + 10]);
-        return;
-    }
-    let ten = ten_of(memory, rom, shown, code, lower, right);
-    put_column(tens, x, &ten);
 }
 
 // The ten bytes of each cell of a row, line after line.
@@ -80,9 +59,8 @@ pub fn tens_of(
 {
     let mut tens = [0; 400];
     for x in 0..40 {
-        put_ten(
-            &mut tens, x, memory, rom, shown, cells[x], lowers[x], rights[x],
-        );
+        let ten = ten_of(memory, rom, shown, cells[x], lowers[x], rights[x]);
+        put_column(&mut tens, x, &ten);
     }
     tens
 }
