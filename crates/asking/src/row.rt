@@ -1,5 +1,5 @@
-// Questions about a row of the page at Y, whose first block is Z, and about rows that follow on: each is asked of the bytes of every cell, and the
-// bytes of the cells stand side by side, those of the left columns and those of the right.
+// Questions about a row of the page at Y, whose first block is Z, and about rows that follow on. Each is asked of the
+// bytes of every cell, which stand side by side in their blocks, those of the left columns and those of the right.
 ghost use Rattle.std.specs.Prelude.{◌≡◌, ℕ, Bool, true, List, [], ◌∷◌, ◌+◌, ◌≤◌, ◌<◌, get_or};
 ghost use Rattle.basics.specs.Below.{any_below};
 ghost use Rattle.board.specs.declared.Part.TheVariants.{Ef9345, Ts9347};
@@ -18,8 +18,9 @@ use keys::key::Keys;
 use page::code::block_start;
 use page::stretch::some_below;
 
-// The question is answered yes for a cell of the row at Y. It is asked of where the cell's bytes stand in their blocks. Where a row has such a cell, one on its
-// left is most often, so the 32 left columns, which stand side by side, are asked in two halves, and then the 8 right ones.
+// The question is answered yes for a cell of the row at Y. It is asked of where the cell's bytes stand in their blocks.
+// Where a row has such a cell, one on its left is most often, so the 32 left columns are asked in two halves, and then
+// the 8 right ones.
 #[inline(always)]
 fn some_in_row<F: Fn(usize) -> bool>(y: u8, question: F) -> bool
     requires { (y < 32) × ((at : ℕ) → at < 1024 → F.pre question at) }
@@ -32,8 +33,8 @@ fn some_in_row<F: Fn(usize) -> bool>(y: u8, question: F) -> bool
         || some_below(8, |i| question(right + i))
 }
 
-// The same of a cell of the row at Y or of the rows with the next Ys, so many in all: from Y 8 on the row with the next Y follows on, on the left and on the
-// right, so that one look does for all.
+// The same of a cell of the row at Y or of the rows with the next Ys, so many in all: from Y 8 on the row with the next
+// Y follows on, on the left and on the right, so that one look does for all.
 fn some_in_rows<F: Fn(usize) -> bool>(y: u8, rows: usize, question: F) -> bool
     requires { (8 ≤ y) × (y + rows ≤ 32) × ((at : ℕ) → at < 1024 → F.pre question at) }
     ensures { (test : ℕ → Bool) → AnswersAs (F.post question) test 1024
@@ -44,7 +45,8 @@ fn some_in_rows<F: Fn(usize) -> bool>(y: u8, rows: usize, question: F) -> bool
     some_below(32 * rows, |i| question(left + i)) || some_below(8 * rows, |i| question(right + i))
 }
 
-// The tests of a cell by its bytes, each part with its own, so that the limit of B is a number in the loop and not a variable. Double height, of an EF9345.
+// Double height, of an EF9345. Each part has a test of its own, so that the limit of B is a number in the loop and not
+// a variable.
 fn is_tall_ef9345(b: u8) -> bool
     ensures { (code : List ℕ) → b ≡ get_or code 1 0 → result ≡ is_tall Ef9345 code }
 {

@@ -36,7 +36,14 @@ fn asked_marks(marks: &mut [bool; 25], shown: Shown, memory: &[u8], x: u8, y: u8
 }
 
 // The marks after bytes at X and Y have changed in the blocks, in place: copying them in and out would cost more than most questions.
-fn change_marks(marks: &mut [bool; 25], shown: Shown, memory: &[u8], x: u8, y: u8, blocks: [u8; 3])
+pub fn change_marks(
+    marks: &mut [bool; 25],
+    shown: Shown,
+    memory: &[u8],
+    x: u8,
+    y: u8,
+    blocks: [u8; 3],
+)
     requires { (length memory.now ≡ bytes_of shown.blocks) × (on_page x y ≡ true) × AllFitted shown.blocks blocks }
     ensures { marks.new ≡ change_marks shown memory.now x y blocks marks.old }
 {

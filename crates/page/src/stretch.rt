@@ -1,5 +1,4 @@
 // Questions about a stretch of cells whose bytes stand side by side in each block of the page: columns 0 to 31 of a row, and 32 to 39.
-// Each loop gathers and goes to its end, so that it can be compiled to ask many bytes at once.
 ghost use Rattle.std.specs.Prelude.{◌≡◌, ℕ, Bool, List, ◌+◌, ◌%◌, ◌<◌, ◌≤◌, get_or};
 ghost use Rattle.basics.specs.Below.{any_below};
 ghost use Rattle.address.specs.Places.{place_of, block_of};
@@ -12,7 +11,8 @@ use address::place::{block, place_at};
 use board::Part;
 use cell::decode::last_bichrome;
 
-// The question is answered yes at some number below n. It gathers and goes to its end, so that it can be compiled to ask many bytes at once.
+// The question is answered yes at some number below n. The loop gathers and goes to its end, so that it can be compiled
+// to ask many bytes at once.
 pub fn some_below<F: Fn(usize) -> bool>(n: usize, question: F) -> bool
     requires { (i : ℕ) → i < n → F.pre question i }
     ensures { (test : ℕ → Bool) → AnswersAs (F.post question) test n → result ≡ any_below test n }
