@@ -1,7 +1,6 @@
 // The rows whose list holds a byte at X and Y in one of a few blocks. X and Y say at once which row could have it among its own bytes, and
 // which one character could have it as a slice, so one look at a row answers for all the blocks.
 ghost use Rattle.std.specs.Prelude.{◌≡◌, true, ◌&&◌, ◌+◌, ◌<◌, ◌≤◌, eqb, length};
-ghost use Rattle.board.specs.Boards.{bytes_of};
 ghost use Rattle.address.specs.Triples.{on_page};
 ghost use Rattle.address.specs.Rows.{row_y};
 ghost use Rattle.page.specs.HowCodes.{Has};
@@ -16,7 +15,7 @@ use asking::row::{has_character, has_keyed, has_tall, near_has};
 use board::Part;
 use keys::key::{Keys, is_source, keys_of, some_code_block};
 use keys::own::row_at;
-use shown::Shown;
+use shown::page::Page;
 
 // The row that has the byte among its own, and those below it down to the first without a cell of double height.
 fn reach(marks: &mut [bool; 25], part: Part, memory: &[u8], z: u8, yor: u8, row: u8)
@@ -98,17 +97,11 @@ fn slice_marks(marks: &mut [bool; 25], memory: &[u8], z: u8, yor: u8, keys: Keys
 
 // The rows whose list holds a byte at X and Y in one of the blocks; 255 is none. In 80 columns a list is the row's own bytes. So it is where the page's second
 // block is not fitted: every B is 0 there, and no cell is of double height, of a user set or quadrichrome.
-pub fn list_marks(
-    marks: &mut [bool; 25],
-    shown: Shown,
-    memory: &[u8],
-    x: u8,
-    y: u8,
-    blocks: [u8; 3],
-)
-    requires { (length memory.now ≡ bytes_of shown.blocks) × (on_page x y ≡ true) × AllFitted shown.blocks blocks }
-    ensures { marks.new ≡ marked_too (some_on_list shown memory.now x y blocks) marks.old }
+pub fn list_marks(marks: &mut [bool; 25], page: &Page, x: u8, y: u8, blocks: [u8; 3])
+    requires { (on_page x y ≡ true) × AllFitted page.now.shown.blocks blocks }
+    ensures { marks.new ≡ marked_too (some_on_list page.now.shown page.now.memory.now x y blocks) marks.old }
 {
+    let shown = page.shown;
     let yor = shown.yor();
     let z = shown.first_block();
     let eighty = shown.is_eighty();
@@ -117,9 +110,9 @@ pub fn list_marks(
         return;
     }
     let part = shown.part;
-    own_marks(marks, part, memory, z, yor, y, blocks);
+    own_marks(marks, part, page.memory, z, yor, y, blocks);
     let keys = keys_of(shown, x, y, blocks);
     if is_source(keys) {
-        slice_marks(marks, memory, z, yor, keys);
+        slice_marks(marks, page.memory, z, yor, keys);
     }
 }

@@ -1,7 +1,6 @@
 // What a store marks, and what the three stores of a code and the two of a position of 80 columns do, which differ in the block alone.
 ghost use Rattle.std.specs.Prelude.{◌≡◌, true, ◌+◌, ◌*◌, ◌<◌, length};
 ghost use Rattle.basics.specs.Below.{any_below};
-ghost use Rattle.board.specs.Boards.{bytes_of};
 ghost use Rattle.address.specs.Narrow.{attributes_at};
 ghost use Rattle.address.specs.Triples.{legal_in, on_page};
 ghost use Rattle.address.specs.Places.{place_of, block_at};
@@ -15,7 +14,7 @@ use address::place::{block, place_at};
 use address::position::attributes_at;
 use address::triple::Triple;
 use keys::key::some_changed;
-use shown::Shown;
+use shown::page::Page;
 
 // Some row is not marked yet.
 fn some_unmarked(marks: &[bool; 25]) -> bool
@@ -25,58 +24,44 @@ fn some_unmarked(marks: &[bool; 25]) -> bool
 }
 
 // Where every row is marked none is asked. That question looks at a copy: of marks that are lent the compiler may not read all 25 at once.
-fn asked_marks(marks: &mut [bool; 25], shown: Shown, memory: &[u8], x: u8, y: u8, blocks: [u8; 3])
-    requires { (length memory.now ≡ bytes_of shown.blocks) × (on_page x y ≡ true) × AllFitted shown.blocks blocks }
-    ensures { marks.new ≡ marked_too (some_on_list shown memory.now x y blocks) marks.old }
+fn asked_marks(marks: &mut [bool; 25], page: &Page, x: u8, y: u8, blocks: [u8; 3])
+    requires { (on_page x y ≡ true) × AllFitted page.now.shown.blocks blocks }
+    ensures { marks.new ≡ marked_too (some_on_list page.now.shown page.now.memory.now x y blocks) marks.old }
 {
     let before = *marks;
     if some_unmarked(&before) {
-        list_marks(marks, shown, memory, x, y, blocks);
+        list_marks(marks, page, x, y, blocks);
     }
 }
 
 // The marks after bytes at X and Y have changed in the blocks, in place: copying them in and out would cost more than most questions.
-pub fn change_marks(
-    marks: &mut [bool; 25],
-    shown: Shown,
-    memory: &[u8],
-    x: u8,
-    y: u8,
-    blocks: [u8; 3],
-)
-    requires { (length memory.now ≡ bytes_of shown.blocks) × (on_page x y ≡ true) × AllFitted shown.blocks blocks }
-    ensures { marks.new ≡ change_marks shown memory.now x y blocks marks.old }
+pub fn change_marks(marks: &mut [bool; 25], page: &Page, x: u8, y: u8, blocks: [u8; 3])
+    requires { (on_page x y ≡ true) × AllFitted page.now.shown.blocks blocks }
+    ensures { marks.new ≡ change_marks page.now.shown page.now.memory.now x y blocks marks.old }
 {
-    if shown.can_draw() {
-        asked_marks(marks, shown, memory, x, y, blocks);
+    if page.shown.can_draw() {
+        asked_marks(marks, page, x, y, blocks);
     }
 }
 
 // The same of marks by value. Most often no block is there, and nothing is to be marked.
 #[inline(always)]
-pub fn marks_after(
-    mut marks: [bool; 25],
-    shown: Shown,
-    memory: &[u8],
-    x: u8,
-    y: u8,
-    blocks: [u8; 3],
-) -> [bool; 25]
-    requires { (length memory.now ≡ bytes_of shown.blocks) × (on_page x y ≡ true) × AllFitted shown.blocks blocks }
-    ensures { result ≡ change_marks shown memory.now x y blocks marks }
+pub fn marks_after(mut marks: [bool; 25], page: &Page, x: u8, y: u8, blocks: [u8; 3]) -> [bool; 25]
+    requires { (on_page x y ≡ true) × AllFitted page.now.shown.blocks blocks }
+    ensures { result ≡ change_marks page.now.shown page.now.memory.now x y blocks marks }
 {
     if some_changed(blocks) {
-        change_marks(&mut marks, shown, memory, x, y, blocks);
+        change_marks(&mut marks, page, x, y, blocks);
     }
     marks
 }
 
 // Block Z where the value changes the byte that it has at this offset, and else 255. The number of the board's blocks is a byte, so that 255 is none of them.
-pub fn changed_block(memory: &[u8], board: u8, at: usize, z: u8, value: u8) -> u8
-    requires { (length memory.now ≡ bytes_of board) × (at < 1024) × (z < board) }
-    ensures { (result ≡ changed_block memory.now (1024 * z + at) z value) × (z < 255) }
+pub fn changed_block(page: &Page, at: usize, z: u8, value: u8) -> u8
+    requires { (at < 1024) × (z < page.now.shown.blocks) }
+    ensures { (result ≡ changed_block page.now.memory.now (1024 * z + at) z value) × (z < 255) }
 {
-    if memory[z as usize * 1024 + at] == value {
+    if page.memory[z as usize * 1024 + at] == value {
         return 255;
     }
     z
@@ -86,64 +71,46 @@ pub fn changed_block(memory: &[u8], board: u8, at: usize, z: u8, value: u8) -> u
 // stores mark what the lists before the first of them hold, so one look at a row answers for all three.
 pub fn code_marks(
     marks: [bool; 25],
-    shown: Shown,
-    memory: &[u8],
+    page: &Page,
     at: Triple,
     here: usize,
     c: u8,
     b: u8,
     a: u8,
 ) -> [bool; 25]
-    requires { (length memory.now ≡ bytes_of shown.blocks) × (here ≡ place_of at.x at.y 0)
-        × (legal_in shown.blocks (block_at at 0) ≡ true) × (legal_in shown.blocks (block_at at 1) ≡ true) × (legal_in shown.blocks (block_at at 2) ≡ true) }
-    ensures { result ≡ stores_marks shown memory.now (code_stores at c b a) marks }
+    requires { (here ≡ place_of at.x at.y 0)
+        × (legal_in page.now.shown.blocks (block_at at 0) ≡ true) × (legal_in page.now.shown.blocks (block_at at 1) ≡ true) × (legal_in page.now.shown.blocks (block_at at 2) ≡ true) }
+    ensures { result ≡ stores_marks page.now.shown page.now.memory.now (code_stores at c b a) marks }
 {
     let blocks = [
-        changed_block(memory, shown.blocks, here, block(at.z, 0), c),
-        changed_block(memory, shown.blocks, here, block(at.z, 1), b),
-        changed_block(memory, shown.blocks, here, block(at.z, 2), a),
+        changed_block(page, here, block(at.z, 0), c),
+        changed_block(page, here, block(at.z, 1), b),
+        changed_block(page, here, block(at.z, 2), a),
     ];
-    marks_after(marks, shown, memory, at.x, at.y, blocks)
+    marks_after(marks, page, at.x, at.y, blocks)
 }
 
 // The marks after C and the attributes of its column are stored at a legal triple's place and at theirs, both fitted; the stores themselves come after.
-pub fn narrow_marks(
-    marks: [bool; 25],
-    shown: Shown,
-    memory: &[u8],
-    at: Triple,
-    c: u8,
-    a: u8,
-) -> [bool; 25]
-    requires { (length memory.now ≡ bytes_of shown.blocks) × (legal_in shown.blocks at ≡ true) × (legal_in shown.blocks (attributes_at at) ≡ true) }
-    ensures { result ≡ stores_marks shown memory.now (narrow_stores at c a) marks }
+pub fn narrow_marks(marks: [bool; 25], page: &Page, at: Triple, c: u8, a: u8) -> [bool; 25]
+    requires { (legal_in page.now.shown.blocks at ≡ true) × (legal_in page.now.shown.blocks (attributes_at at) ≡ true) }
+    ensures { result ≡ stores_marks page.now.shown page.now.memory.now (narrow_stores at c a) marks }
 {
     let here = place_at(at.x as u16, at.y as u16, 0);
     let attributes = attributes_at(at);
     let blocks = [
-        changed_block(memory, shown.blocks, here, at.z, c),
-        changed_block(memory, shown.blocks, here, attributes.z, a),
+        changed_block(page, here, at.z, c),
+        changed_block(page, here, attributes.z, a),
         255,
     ];
-    marks_after(marks, shown, memory, at.x, at.y, blocks)
+    marks_after(marks, page, at.x, at.y, blocks)
 }
 
 // The marks after a store of `value` at a triple that is legal and fitted; the store itself comes after.
-pub fn store_marks(
-    marks: [bool; 25],
-    shown: Shown,
-    memory: &[u8],
-    at: Triple,
-    value: u8,
-) -> [bool; 25]
-    requires { (length memory.now ≡ bytes_of shown.blocks) × (legal_in shown.blocks at ≡ true) }
-    ensures { result ≡ store_marks shown memory.now (place_of at.x at.y at.z) value marks }
+pub fn store_marks(marks: [bool; 25], page: &Page, at: Triple, value: u8) -> [bool; 25]
+    requires { (legal_in page.now.shown.blocks at ≡ true) }
+    ensures { result ≡ store_marks page.now.shown page.now.memory.now (place_of at.x at.y at.z) value marks }
 {
     let here = place_at(at.x as u16, at.y as u16, 0);
-    let blocks = [
-        changed_block(memory, shown.blocks, here, at.z, value),
-        255,
-        255,
-    ];
-    marks_after(marks, shown, memory, at.x, at.y, blocks)
+    let blocks = [changed_block(page, here, at.z, value), 255, 255];
+    marks_after(marks, page, at.x, at.y, blocks)
 }

@@ -1,6 +1,5 @@
 // The rows that flash on a page that has its third block and not its second: columns are asked one by one, with 0 for each byte that is not fitted.
 ghost use Rattle.std.specs.Prelude.{◌≡◌, [], ◌∷◌, length};
-ghost use Rattle.board.specs.Boards.{bytes_of};
 ghost use Rattle.page.specs.Marks.{marked_too};
 ghost use Rattle.reading.specs.Marks.{flash_in};
 ghost use Rattle.phases.specs.HowPhases.{flashes_in};
@@ -10,7 +9,6 @@ use board::Part;
 use cell::decode::last_bichrome;
 use page::code::row_buffer;
 use page::stretch::some_below;
-use shown::Shown;
 use shown::page::Page;
 
 // A column by its C, B and A: in 80 columns one of its two cells flashes, in 40 its one.
@@ -25,13 +23,12 @@ fn column_flashes(part: Part, eighty: bool, c: u8, b: u8, a: u8) -> bool
     (b <= last_bichrome(part)) & (a / 8 % 2 == 1)
 }
 
-fn row_flashes(memory: &[u8], shown: Shown, row: u8) -> bool
-    requires { length memory.now ≡ bytes_of shown.blocks }
-    ensures { result ≡ flash_in shown memory.now row }
+fn row_flashes(page: &Page, row: u8) -> bool
+    ensures { result ≡ flash_in page.now.shown page.now.memory.now row }
 {
-    let part = shown.part;
-    let eighty = shown.is_eighty();
-    let cells = row_buffer(&Page { memory, shown }, row);
+    let part = page.shown.part;
+    let eighty = page.shown.is_eighty();
+    let cells = row_buffer(page, row);
     some_below(
         40,
         |x| column_flashes(part, eighty, cells[x][0], cells[x][1], cells[x][2]),
@@ -39,9 +36,8 @@ fn row_flashes(memory: &[u8], shown: Shown, row: u8) -> bool
 }
 
 // The rows that flash, in either mode.
-pub fn bare_flash_in(marks: &mut [bool; 25], memory: &[u8], shown: Shown)
-    requires { (length memory.now ≡ bytes_of shown.blocks) }
-    ensures { marks.new ≡ marked_too (flash_in shown memory.now) marks.old }
+pub fn bare_flash_in(marks: &mut [bool; 25], page: &Page)
+    ensures { marks.new ≡ marked_too (flash_in page.now.shown page.now.memory.now) marks.old }
 {
-    mark_where(marks, 0..25, |r| row_flashes(memory, shown, r));
+    mark_where(marks, 0..25, |r| row_flashes(page, r));
 }

@@ -1,6 +1,5 @@
 // What a phase change marks.
 ghost use Rattle.std.specs.Prelude.{◌≡◌, ◌&&◌, ◌+◌, ◌<◌, ◌≤◌, length};
-ghost use Rattle.board.specs.Boards.{bytes_of};
 ghost use Rattle.board.specs.declared.Part.TheVariants.{Ef9345};
 ghost use Rattle.address.specs.Rows.{row_y};
 ghost use Rattle.page.specs.HowCodes.{Has};
@@ -15,7 +14,7 @@ use address::row::row_y;
 use asking::row::{has_blink, has_flash, has_pair_flash, near_blinks};
 use board::Part;
 use page::code::is_fitted;
-use shown::Shown;
+use shown::page::Page;
 
 // No cell of the four rows from Y on has its A3 set, so that none flashes: one look at their A bytes. It is not taken where the row before was marked,
 // since on a page that flashes everywhere it would be in vain, nor where the Ys begin again within the four.
@@ -66,10 +65,10 @@ fn blink_in(marks: &mut [bool; 25], memory: &[u8], z: u8, yor: u8)
 }
 
 // Where the page's third block is not fitted every A is 0, and nothing flashes in either mode.
-fn flash_marks(marks: [bool; 25], shown: Shown, memory: &[u8]) -> [bool; 25]
-    requires { length memory.now ≡ bytes_of shown.blocks }
-    ensures { result ≡ marked_too (flash_in shown memory.now) marks }
+fn flash_marks(marks: [bool; 25], page: &Page) -> [bool; 25]
+    ensures { result ≡ marked_too (flash_in page.now.shown page.now.memory.now) marks }
 {
+    let shown = page.shown;
     if !is_fitted(shown, 2) {
         return marks;
     }
@@ -79,36 +78,35 @@ fn flash_marks(marks: [bool; 25], shown: Shown, memory: &[u8]) -> [bool; 25]
     let fitted = is_fitted(shown, 1);
     if shown.is_eighty() {
         if fitted {
-            pair_flash_in(&mut after, memory, z, yor);
+            pair_flash_in(&mut after, page.memory, z, yor);
             return after;
         }
-        bare_flash_in(&mut after, memory, shown);
+        bare_flash_in(&mut after, page);
         return after;
     }
     if fitted {
         let part = shown.part;
         match part {
             Part::Ef9345 => {
-                flash_in(&mut after, memory, z, yor);
+                flash_in(&mut after, page.memory, z, yor);
                 return after;
             }
             Part::Ts9347 => {
-                blink_in(&mut after, memory, z, yor);
+                blink_in(&mut after, page.memory, z, yor);
                 return after;
             }
         }
     }
-    bare_flash_in(&mut after, memory, shown);
+    bare_flash_in(&mut after, page);
     after
 }
 
 // The marks after the phase has changed.
-pub fn phase_marks(marks: [bool; 25], shown: Shown, memory: &[u8]) -> [bool; 25]
-    requires { length memory.now ≡ bytes_of shown.blocks }
-    ensures { result ≡ phase_marks shown memory.now marks }
+pub fn phase_marks(marks: [bool; 25], page: &Page) -> [bool; 25]
+    ensures { result ≡ phase_marks page.now.shown page.now.memory.now marks }
 {
-    if shown.can_draw() {
-        return flash_marks(marks, shown, memory);
+    if page.shown.can_draw() {
+        return flash_marks(marks, page);
     }
     marks
 }

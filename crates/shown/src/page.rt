@@ -1,5 +1,5 @@
-// What a page is drawn from. That its bytes are bytes is written out, since a proof does not know it of a slice that stands in a struct.
-ghost use Rattle.std.specs.Prelude.{◌≡◌, length};
+// What a page is drawn from. That its bytes are bytes is written out, since a proof does not know it of what stands behind two references.
+ghost use Rattle.std.specs.Prelude.{◌≡◌, ◌<◌, length};
 ghost use Rattle.board.specs.Boards.{bytes_of};
 ghost use Rattle.shown.specs.Lengths.{rom_bytes};
 ghost use Rattle.shown.specs.Bytes.{AreBytes};
@@ -14,6 +14,7 @@ pub struct Page<'a> {
     // The bytes of all its blocks, and no more.
     ghost memory_whole: { length memory.now ≡ bytes_of shown.blocks },
     ghost memory_of_bytes: { AreBytes memory.now },
+    ghost blocks_in_a_byte: { shown.blocks < 256 },
 }
 
 // The same, with the character ROM.

@@ -9,22 +9,21 @@ use borrow.Author.Rules.{rules}
 use Rattle.marking.proofs.store.narrow_marks.Goals as goal
 
 pub changed_block-requires : goal.changed_block-requires
-changed_block-requires c = let board = c.args.shown.blocks in
-    (c.requires.0, here_fits board c.args.at _ c.requires.1 c.place_at-here.ensures, legal_block board c.args.at c.requires.1)
+changed_block-requires c = let board = c.args.page.now.shown.blocks in
+    (here_fits board c.args.at _ c.requires.0 c.place_at-here.ensures, legal_block board c.args.at c.requires.0)
 
 pub changed_block-requires-2 : goal.changed_block-requires-2
-changed_block-requires-2 c = let board = c.args.shown.blocks in
-    (c.requires.0, here_fits board c.args.at _ c.requires.1 c.place_at-here.ensures, omega (arith, ap (λ (t : Triple). t.z) c.attributes_at-attributes.ensures, legal_block board c.args.at c.requires.1, legal_block board (attributes_at c.args.at) c.requires.2))
+changed_block-requires-2 c = let board = c.args.page.now.shown.blocks in
+    (here_fits board c.args.at _ c.requires.0 c.place_at-here.ensures, omega (arith, ap (λ (t : Triple). t.z) c.attributes_at-attributes.ensures, legal_block board c.args.at c.requires.0, legal_block board (attributes_at c.args.at) c.requires.1))
 
 pub marks_after-requires : goal.marks_after-requires
-marks_after-requires c = let board = c.args.shown.blocks in
+marks_after-requires c = let board = c.args.page.now.shown.blocks in
     let attributes = ap (λ (t : Triple). t.z) c.attributes_at-attributes.ensures in
-    let first = legal_block board c.args.at c.requires.1 in (
-      c.requires.0,
-      legal_page board c.args.at c.requires.1,
+    let first = legal_block board c.args.at c.requires.0 in (
+      legal_page board c.args.at c.requires.0,
       (
         changed_fits board _ _ _ _ _ first c.changed_block.ensures.0,
-        changed_fits board _ _ _ _ _ (omega (arith, attributes, first, legal_block board (attributes_at c.args.at) c.requires.2)) c.changed_block-2.ensures.0,
+        changed_fits board _ _ _ _ _ (omega (arith, attributes, first, legal_block board (attributes_at c.args.at) c.requires.1)) c.changed_block-2.ensures.0,
         inl refl,
       ),
     )
@@ -33,8 +32,8 @@ pub returns : goal.returns
 returns c = let a = c.args in
     c.marks_after.ensures
     ∙ sym
-    (narrow_changes a.shown a.memory.now a.marks (search rules) a.at _ _ _ _ c.changed_block.ensures.1
+    (narrow_changes a.page.now.shown a.page.now.memory.now a.marks (search rules) a.at _ _ _ _ c.changed_block.ensures.1
     (omega (arith, ap (λ (t : Triple). t.z) c.attributes_at-attributes.ensures, c.changed_block-2.ensures.1))
-    (changed_at a.memory.now a.at.x a.at.y a.at.z _ _ _ _ c.place_at-here.ensures refl c.changed_block.ensures.0)
-    (changed_at a.memory.now a.at.x a.at.y (attributes_at a.at).z _ _ _ _ c.place_at-here.ensures
+    (changed_at a.page.now.memory.now a.at.x a.at.y a.at.z _ _ _ _ c.place_at-here.ensures refl c.changed_block.ensures.0)
+    (changed_at a.page.now.memory.now a.at.x a.at.y (attributes_at a.at).z _ _ _ _ c.place_at-here.ensures
     (omega (arith, ap (λ (t : Triple). t.z) c.attributes_at-attributes.ensures)) c.changed_block-2.ensures.0))

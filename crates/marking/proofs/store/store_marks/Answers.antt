@@ -6,15 +6,14 @@ use borrow.Author.Rules.{rules}
 use Rattle.marking.proofs.store.store_marks.Goals as goal
 
 pub changed_block-requires : goal.changed_block-requires
-changed_block-requires c = let board = c.args.shown.blocks in
-    (c.requires.0, here_fits board c.args.at _ c.requires.1 c.place_at-here.ensures, legal_block board c.args.at c.requires.1)
+changed_block-requires c = let board = c.args.page.now.shown.blocks in
+    (here_fits board c.args.at _ c.requires c.place_at-here.ensures, legal_block board c.args.at c.requires)
 
 pub marks_after-requires : goal.marks_after-requires
-marks_after-requires c = let board = c.args.shown.blocks in (
-  c.requires.0,
-  legal_page board c.args.at c.requires.1,
+marks_after-requires c = let board = c.args.page.now.shown.blocks in (
+  legal_page board c.args.at c.requires,
   (
-    changed_fits board _ _ _ _ _ (legal_block board c.args.at c.requires.1) c.changed_block.ensures.0,
+    changed_fits board _ _ _ _ _ (legal_block board c.args.at c.requires) c.changed_block.ensures.0,
     inl refl,
     inl refl,
   ),
@@ -24,5 +23,5 @@ pub returns : goal.returns
 returns c = let a = c.args in
     c.marks_after.ensures
     ∙ sym
-    (store_changes a.shown a.memory.now a.marks (search rules) a.at.x a.at.y a.at.z _ c.changed_block.ensures.1 _
-    (changed_at a.memory.now a.at.x a.at.y a.at.z _ _ _ _ c.place_at-here.ensures refl c.changed_block.ensures.0))
+    (store_changes a.page.now.shown a.page.now.memory.now a.marks (search rules) a.at.x a.at.y a.at.z _ c.changed_block.ensures.1 _
+    (changed_at a.page.now.memory.now a.at.x a.at.y a.at.z _ _ _ _ c.place_at-here.ensures refl c.changed_block.ensures.0))

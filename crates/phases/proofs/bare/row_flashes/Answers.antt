@@ -5,7 +5,7 @@ use Rattle.phases.proofs.Ends.{by_bytes, row_flashed}
 use Rattle.phases.proofs.bare.row_flashes.Goals as goal
 
 pub returns : goal.returns
-returns c = let part = c.args.shown.part in
+returns c = let part = c.args.page.now.shown.part in
     let eighty = c.is_eighty-eighty.result in
     let cells = c.row_buffer-cells.result in
     row_flashed _ _ _ _ 40 _ _
