@@ -15,9 +15,10 @@ fn inks_at(tens: &Tens, n: usize, p: usize) -> usize
     4 * tens.bytes[10 * p + n] as usize
 }
 
-// Line n of a row, built by value and then copied. It is copied here, and not by the row drawer: a line that is returned
-// is copied once more on the way. Each position is put with the byte behind its three, which the next one puts anew: to move
-// four bytes takes fewer instructions than to move three. So the line has one byte more than is copied.
+// Line n of a row, built by value and then copied. It is copied here, and not by the row drawer: a line that is
+// returned is copied once more on the way. Each position is put with the byte behind its three, which the next one
+// puts anew: to move four bytes takes fewer instructions than to move three. So the line has one byte more than is
+// copied, and the parts overlap, as no chunks of it would.
 pub fn draw_line(part: &mut [u8], tens: &Tens, inks: &[u8; 512], n: usize)
     requires { (length part.old ≡ line_bytes eighty_bytes) × (n < 10) }
     ensures { part.new ≡ eighty_line_on tens.now.bytes inks.now n }

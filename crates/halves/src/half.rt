@@ -31,8 +31,8 @@ pub fn goes_on(doubles: bool, code: [u8; 3], before: [u8; 3]) -> bool
     doubles && same_code(code, before)
 }
 
-// The right halves of a row: each asked of the cell to its left. A half hangs on the one before it, so this is a loop over
-// places, and no closure without a state of its own gives it.
+// The right halves of a row: each asked of the cell to its left. A half hangs on the one before it, so this is a loop
+// over places, and no closure without a state of its own gives it.
 pub fn right_halves(cells: [[u8; 3]; 40]) -> [bool; 40]
     ensures { result ≡ table (right_in cells) 40 }
 {

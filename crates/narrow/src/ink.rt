@@ -24,7 +24,8 @@ fn eight_of(shown: Shown) -> [u8; 8]
     ]
 }
 
-// The three bytes of byte e, and one that no cell shows: bytes four apart are found by fewer instructions than bytes three apart.
+// The three bytes of byte e, and one that no cell shows: bytes four apart are found by fewer instructions than bytes
+// three apart.
 fn ink(eight: &[u8; 8], shown: Shown, e: usize) -> [u8; 4]
     requires { (eight.now ≡ eight_of shown) × (e < 128) }
     ensures { result ≡ ink_of shown e ++ 0 ∷ [] }

@@ -9,8 +9,8 @@ pub struct Narrow {
     pub attributes: u8,
 }
 
-// The even one has the first block's byte and the high nibble of the third's, the odd one the second block's byte and the
-// low nibble: two functions say it more plainly than one that is told which.
+// The even one has the first block's byte and the high nibble of the third's, the odd one the second block's byte and
+// the low nibble: two functions say it more plainly than one that is told which.
 pub fn even(code: [u8; 3]) -> Narrow
     ensures { result ≡ even_of code }
 {

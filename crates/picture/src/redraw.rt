@@ -20,10 +20,10 @@ fn some_marked(marks: [bool; 25]) -> bool
     marks.contains(&true)
 }
 
-// Row by row, in 40 columns. The lower halves of a row that was just drawn are kept for the row below it. That is a state
-// which 80 columns (`redraw_eighty`) have not: of a closure that changes what it captures a loop over both modes would know
-// nothing, so each mode walks its rows. A row's part is cut out by its place, since the library's `chunks_exact_mut` does not
-// say what the slice ends as.
+// Row by row, in 40 columns. The lower halves of a row that was just drawn are kept for the row below it. That is a
+// state which 80 columns (`redraw_eighty`) have not: of a closure that changes what it captures a loop over both
+// modes would know nothing, so each mode walks its rows. A row's part is cut out by its place, since the library's
+// `chunks_exact_mut` does not say what the slice ends as.
 fn redraw_rows(picture: &mut [u8], scene: &Scene, marks: [bool; 25]) -> usize
     requires { (length picture.old ≡ picture_bytes forty_bytes) × (is_eighty scene.now.page.shown ≡ false) }
     ensures { (picture.new ≡ redrawn marks picture.old scene.now.page.memory.now scene.now.rom.now scene.now.page.shown) × (result ≡ marked_rows marks 25) }

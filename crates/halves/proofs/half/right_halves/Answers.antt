@@ -1,6 +1,6 @@
 use Rattle.halves.proofs.Halves.{right_turn}
 use Rattle.page.specs.Halves.{second_half}
-use Rattle.basics.proofs.Filled.{table_set, table_end}
+use Rattle.basics.proofs.Filled.{table_set}
 use Rattle.basics.specs.Parts.{joined}
 use lib.ListN.{length-set}
 use native.Mathlib.Omega.{arith}
@@ -18,6 +18,3 @@ loop-x-preserved c = let l = c.loop-x in
       simp length-set l.invariant.0,
       table_set _ _ _ _ l.invariant.1 (right_turn a.cells l.x l.halves c.is_wide.result c.goes_on-on.result (search rules) c.is_wide.ensures c.goes_on-on.ensures l.invariant.1) (omega arith),
     )
-
-pub returns : goal.returns
-returns c = let l = c.loop-x in table_end _ _ 40 _ l.invariant.1 (search rules) (search rules) l.invariant.0

@@ -2,7 +2,6 @@ use Rattle.picture.proofs.AnyRows.{start, keep}
 use Rattle.picture.proofs.Redrawing.{drew_eighty, eighty_end}
 use Rattle.eighty.specs.Rows.{eighty_row}
 use Rattle.shown.specs.Lengths.{eighty_bytes}
-use borrow.Author.Rules.{rules}
 use Rattle.picture.proofs.eighty_rows.redraw_eighty.Goals as goal
 
 pub loop-r-init : goal.loop-r-init
@@ -12,9 +11,6 @@ pub loop-r-preserved-then-not-marked : goal.loop-r-preserved-then-not-marked
 loop-r-preserved-then-not-marked c = let l = c.loop-r in
     let a = c.args in
     keep eighty_bytes _ _ (eighty_row a.scene.now.page.memory.now a.scene.now.rom.now a.scene.now.page.shown) _ _ _ l.invariant c.loop-r-test.true c.if-not-marked.true
-
-pub draw_row-requires : goal.draw_row-requires
-draw_row-requires c = (search rules, c.inks_of-inks.ensures)
 
 pub loop-r-preserved : goal.loop-r-preserved
 loop-r-preserved c = let l = c.loop-r in

@@ -16,9 +16,6 @@ loop-r-preserved-then-not-marked c = let l = c.loop-r in
       not_known a.scene.now.page.memory.now a.scene.now.page.shown (l.r + 1),
     )
 
-pub draw_row-requires : goal.draw_row-requires
-draw_row-requires c = (search rules, c.right_halves_of-rights.ensures)
-
 pub loop-r-preserved : goal.loop-r-preserved
 loop-r-preserved c = let l = c.loop-r in
     let a = c.args in (
