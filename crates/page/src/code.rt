@@ -25,7 +25,7 @@ pub fn is_fitted(shown: Shown, k: u8) -> bool
 pub fn is_wide(code: [u8; 3]) -> bool
     ensures { result ≡ is_wide code }
 {
-    (code[1] < 192) & (code[1] / 8 % 2 == 1)
+    code[1] < 192 && code[1] / 8 % 2 == 1
 }
 
 // Where a block starts.
