@@ -1,23 +1,25 @@
 -- Laws of a step: what it reads and stores, and the pointers of the move.
 -- Assumes nothing.
 use Prim.Native.Nat.{ℕ, zero, suc, ◌<◌, ◌≤◌}
-use mathlib.Core.Path.{◌≡◌, refl, sym, ap, ◌∙◌}
-use mathlib.Core.Bool.{Bool, true, false, not, ◌&&◌, ◌||◌}
+use mathlib.Core.Path.{◌≡◌, refl, sym, ap, subst, ◌∙◌}
+use mathlib.Core.Bool.{Bool, true, false, not, ◌&&◌, ◌||◌, false≢true}
 use mathlib.Core.List.{List}
 use mathlib.Core.Logic.{◌≢◌, ⊎_elim}
 use native.Mathlib.Omega.{arith}
 use lib.Dec.{ltb}
-use lib.ListN.{length, set, take}
+use lib.ListN.{length, set, length-set, take}
 use lib.Seq.{get_or-set_same, get_or-set_other, set-set}
 use borrow.Author.Tests.{not-false, lt-ltb}
 use Rattle.basics.specs.Below.{any_below}
-use Rattle.basics.proofs.Choice.{or_none, or_neither, eq_or_ne}
+use Rattle.basics.proofs.Choice.{or_none, or_neither, eq_or_ne, lt_or_le}
 use Rattle.address.specs.Addresses.{is_illegal, is_not_fitted, some_address}
 use Rattle.address.specs.Places.{place_at, block_at, loaded}
 use Rattle.address.specs.Triples.{legal, legal_in}
 use Rattle.address.specs.declared.triple.Triple.{Triple}
 use Rattle.address.proofs.Laws.{page_column}
-use Rattle.std.specs.Prelude.{Some, None}
+use Rattle.std.specs.Prelude.{Option, Some, None, IsSome, is_some, unwrap_or}
+use Rattle.std.specs.Option.{option_or}
+use Rattle.basics.specs.Choice.{pick}
 use Rattle.command.specs.Commands.{command_for}
 use Rattle.command.specs.declared.Command.TheVariants.{Move}
 use Rattle.moves.specs.Onward.{BothOnPage}
@@ -30,7 +32,7 @@ use Rattle.processor.specs.States.{Chip, chip, register_of, with_register, with_
 use Rattle.processor.specs.Pointers.{pointer_of}
 use Rattle.processor.specs.Bytes.{stored}
 use Rattle.processor.specs.Access.{is_astray, is_unfitted, idle}
-use Rattle.processor.specs.HowCarried.{stored_all, last_of}
+use Rattle.processor.specs.HowCarried.{stored_if}
 use Rattle.processor.specs.Moves.{carried, carried_all, position, passed_on, position_of, moved, step_of}
 use Rattle.processor.proofs.Laws.{auxiliary_x_lem, main_x_lem}
 
@@ -64,27 +66,50 @@ module _ (from to : Triple) (k : Chip) (shown : Shown) (after : List Bool) (i0 i
 
 -- as the code does it, by the number of bytes
 pub all_left :
-    (from to : Triple) (k : Chip) (shown : Shown) (after : List Bool) (i0 i1 i2 c b a n : ℕ) → 1 ≤ n → n ≤ 3 → shown ≡ shown_of k.processor →
+    (from to : Triple) (k : Chip) (shown : Shown) (after : List Bool) (i0 i1 i2 c : ℕ) (b a : Option ℕ) (n : ℕ) → 1 ≤ n → n ≤ 3 → shown ≡ shown_of k.processor →
     i0 ≡ place_at (block_at to 0) → i1 ≡ place_at (block_at to 1) → i2 ≡ place_at (block_at to 2) → c ≡ loaded (block_at from 0) k.memory →
-    (ltb 1 n ≡ true → b ≡ loaded (block_at from 1) (set k.memory i0 c)) →
-    (ltb 2 n ≡ true → a ≡ loaded (block_at from 2) (set (set k.memory i0 c) i1 b)) →
-    after ≡ stores_marks shown k.memory (take n (code_stores to c b a)) k.processor.marks → (v : ℕ) (m : List ℕ) → v ≡ last_of n c b a →
-    m ≡ stored_all n i0 c i1 b i2 a k.memory → chip (with_marks (with_register k.processor 1 v) after) m ≡ carried_all n from to k
-unfolding last_of stored_all
-all_left from to k shown after i0 i1 i2 c b a n l h es e0 e1 e2 ec eb ea em v m ev f =
+    b ≡ pick (ltb n 2) None (Some (loaded (block_at from 1) (set k.memory i0 c))) →
+    a ≡ pick (ltb n 3) None (Some (loaded (block_at from 2) (set (set k.memory i0 c) i1 (unwrap_or b 0)))) →
+    after ≡ stores_marks shown k.memory (take n (code_stores to c (unwrap_or b 0) (unwrap_or a 0))) k.processor.marks →
+    chip (with_marks (with_register k.processor 1 (unwrap_or (option_or a b) c)) after) (stored_if i2 a (stored_if i1 b (set k.memory i0 c))) ≡ carried_all n from to k
+all_left from to k shown after i0 i1 i2 c b a n l h es e0 e1 e2 ec eb ea em =
     ⊎_elim
     (λ (e : n ≡ 1).
-    rw (f, ev, e) (one_left from to k shown after i0 i1 i2 c b a es e0 ec n em e))
+    let nb : b ≡ None = eb ∙ rw e refl in
+    let na : a ≡ None = ea ∙ rw e refl in
+    rw (nb, na, e) (one_left from to k shown after i0 i1 i2 c 0 0 es e0 ec n (rw (nb, na) at em) e))
     (λ (x : n ≡ 1 → ⊥).
     ⊎_elim
     (λ (e : n ≡ 2).
-    rw (f, ev, e) (two_left from to k shown after i0 i1 i2 c b a es e0 ec n em e1 (eb (lt-ltb 1 n (omega arith))) e))
+    let v = loaded (block_at from 1) (set k.memory i0 c) in
+    let nb : b ≡ Some v = eb ∙ rw e refl in
+    let na : a ≡ None = ea ∙ rw e refl in
+    rw (nb, na, e) (two_left from to k shown after i0 i1 i2 c v 0 es e0 ec n (rw (nb, na) at em) e1 refl e))
     (λ (y : n ≡ 2 → ⊥).
     let e : n ≡ 3 = omega arith in
-    rw (f, ev, e)
-    (three_left from to k shown after i0 i1 i2 c b a es e0 ec n em e1 (eb (lt-ltb 1 n (omega arith))) e2 (ea (lt-ltb 2 n (omega arith))) e))
+    let v = loaded (block_at from 1) (set k.memory i0 c) in
+    let nb : b ≡ Some v = eb ∙ rw e refl in
+    let u = loaded (block_at from 2) (set (set k.memory i0 c) i1 v) in
+    let na : a ≡ Some u = ea ∙ rw (e, nb) refl in
+    rw (nb, na, e) (three_left from to k shown after i0 i1 i2 c v u es e0 ec n (rw (nb, na) at em) e1 refl e2 refl e))
     (eq_or_ne n 2))
     (eq_or_ne n 1)
+
+-- a store leaves the length
+pub length_stored : (place : ℕ) (o : Option ℕ) (m : List ℕ) → length (stored_if place o m) ≡ length m
+length_stored place None m = refl
+length_stored place (Some v) m = length-set m place v
+
+-- an Option that is asked for by a number, and what it has
+pub asked_some : (n k : ℕ) (o : Option ℕ) (v : ℕ) → o ≡ pick (ltb n k) None (Some v) → IsSome o → k ≤ n
+asked_some n k o v e s = ⊎_elim (λ (l : n < k). absurd (none (e ∙ rw (lt-ltb n k l) refl))) (λ (l : k ≤ n). l) (lt_or_le n k)
+  where
+    none : o ≡ None → ⊥
+    none q = absurd (false≢true (subst (λ (x : Option ℕ). is_some x ≡ true) q s))
+
+pub some_value : (o : Option ℕ) → IsSome o → Some (unwrap_or o 0) ≡ o
+some_value None s = absurd (false≢true s)
+some_value (Some v) s = refl
 
 -- bytes leave every register but R1
 pub carried_register :

@@ -1,12 +1,12 @@
 // The bytes of one position, carried through R1 from one pointer's place to the other's. What they mark is asked at once, before the first is stored.
-ghost use Rattle.std.specs.Prelude.{◌≡◌, true, length, set, ℕ, ◌<◌, ◌≤◌};
+ghost use Rattle.std.specs.Prelude.{◌≡◌, true, length, set, ltb, ℕ, ◌<◌, ◌≤◌, Some, None, IsSome, unwrap_or};
 ghost use Rattle.basics.specs.Choice.{pick};
 ghost use Rattle.board.specs.Boards.{bytes_of};
 ghost use Rattle.address.specs.Places.{block_at, loaded};
 ghost use Rattle.address.specs.Triples.{legal_in};
 ghost use Rattle.processor.specs.States.{chip};
 ghost use Rattle.processor.specs.Moves.{carried_all};
-ghost use Rattle.processor.specs.HowCarried.{stored_all, last_of};
+ghost use Rattle.processor.specs.HowCarried.{stored_if};
 
 use crate::state::Processor;
 use address::byte::load;
@@ -26,78 +26,48 @@ fn load_after(memory: &[u8], blocks: u8, at: Triple, stored: usize, value: u8) -
     memory[here]
 }
 
-// The second byte, where it is asked for, and 0 where it is not: the first is stored by then.
-fn second_byte(asked: bool, memory: &[u8], blocks: u8, at: Triple, first: usize, c: u8) -> u8
-    requires { (length memory.now ≡ bytes_of blocks) × (first < bytes_of blocks) × (asked ≡ true → legal_in blocks at ≡ true) }
-    ensures { result ≡ pick asked (loaded at (set memory.now first c)) 0 }
+// The second byte, of a move of two or three: the first is stored by then.
+fn second_byte(bytes: u8, memory: &[u8], blocks: u8, at: Triple, first: usize, c: u8) -> Option<u8>
+    requires { (length memory.now ≡ bytes_of blocks) × (first < bytes_of blocks) × (2 ≤ bytes → legal_in blocks at ≡ true) }
+    ensures { result ≡ pick (ltb bytes 2) None (Some (loaded at (set memory.now first c))) }
 {
-    if asked {
-        return load_after(memory, blocks, at, first, c);
+    if bytes < 2 {
+        return None;
     }
-    0
+    Some(load_after(memory, blocks, at, first, c))
 }
 
-// The third, likewise: both before it are stored.
+// The third, of a move of three: both before it are stored.
 fn third_byte(
-    asked: bool,
+    bytes: u8,
     memory: &[u8],
     blocks: u8,
     at: Triple,
     first: usize,
     c: u8,
     second: usize,
-    b: u8,
-) -> u8
-    requires { (length memory.now ≡ bytes_of blocks) × (first < bytes_of blocks) × (asked ≡ true → (legal_in blocks at ≡ true) × (second < bytes_of blocks)) }
-    ensures { result ≡ pick asked (loaded at (set (set memory.now first c) second b)) 0 }
+    b: Option<u8>,
+) -> Option<u8>
+    requires { (length memory.now ≡ bytes_of blocks) × (first < bytes_of blocks) × (3 ≤ bytes → (legal_in blocks at ≡ true) × (second < bytes_of blocks) × IsSome b) }
+    ensures { result ≡ pick (ltb bytes 3) None (Some (loaded at (set (set memory.now first c) second (unwrap_or b 0)))) }
 {
-    if !asked {
-        return 0;
+    if bytes < 3 {
+        return None;
     }
     if place(at) == second {
         return b;
     }
-    load_after(memory, blocks, at, first, c)
+    Some(load_after(memory, blocks, at, first, c))
 }
 
-// The first bytes of the three, in their order.
-#[tactic(auto, unfolding(crate::specs::HowCarried::stored_all))]
-fn store_all(
-    memory: &mut [u8],
-    bytes: u8,
-    first: usize,
-    c: u8,
-    second: usize,
-    b: u8,
-    third: usize,
-    a: u8,
-)
-    requires { (first < length memory.old) × (2 ≤ bytes → second < length memory.old) × (3 ≤ bytes → third < length memory.old) }
-    ensures { memory.new ≡ stored_all bytes first c second b third a memory.old }
+// A byte that is moved goes to its place.
+fn store_if(memory: &mut [u8], place: usize, value: Option<u8>)
+    requires { IsSome value → place < length memory.old }
+    ensures { memory.new ≡ stored_if place value memory.old }
 {
-    memory[first] = c;
-    if bytes < 2 {
-        return;
+    if let Some(value) = value {
+        memory[place] = value;
     }
-    memory[second] = b;
-    if bytes < 3 {
-        return;
-    }
-    memory[third] = a;
-}
-
-// The last of one, two or three.
-#[tactic(auto, unfolding(crate::specs::HowCarried::last_of))]
-fn last_of(bytes: u8, c: u8, b: u8, a: u8) -> u8
-    ensures { result ≡ last_of bytes c b a }
-{
-    if bytes < 2 {
-        return c;
-    }
-    if bytes < 3 {
-        return b;
-    }
-    a
 }
 
 // One, two or three bytes.
@@ -117,9 +87,9 @@ pub fn carry_all(
     let second = place(block_at(to, 1));
     let third = place(block_at(to, 2));
     let c = load(memory, p.blocks, block_at(from, 0));
-    let b = second_byte(1 < bytes, memory, p.blocks, block_at(from, 1), first, c);
+    let b = second_byte(bytes, memory, p.blocks, block_at(from, 1), first, c);
     let a = third_byte(
-        2 < bytes,
+        bytes,
         memory,
         p.blocks,
         block_at(from, 2),
@@ -129,9 +99,21 @@ pub fn carry_all(
         b,
     );
     let before = p.marks;
-    let after = span_marks(before, p.shown(), memory, to, here, bytes, c, b, a);
-    store_all(memory, bytes, first, c, second, b, third, a);
-    p.registers[1] = last_of(bytes, c, b, a);
+    let after = span_marks(
+        before,
+        p.shown(),
+        memory,
+        to,
+        here,
+        bytes,
+        c,
+        b.unwrap_or(0),
+        a.unwrap_or(0),
+    );
+    memory[first] = c;
+    store_if(memory, second, b);
+    store_if(memory, third, a);
+    p.registers[1] = a.or(b).unwrap_or(c);
     p.marks = after;
     p
 }
