@@ -7,8 +7,7 @@ use mathlib.Core.Bool.{Bool, true, false}
 use mathlib.Core.List.{List, ◌∷◌, ◌++◌}
 use lib.ListN.{length, get_or, set}
 use Rattle.basics.specs.Choice.{pick}
-use Rattle.address.specs.Addresses.{is_illegal, is_not_fitted, some_address, all_fitted}
-use Rattle.address.specs.declared.answer.Address.{Address}
+use Rattle.address.specs.Addresses.{Address, is_illegal, is_not_fitted, some_address, all_fitted}
 use Rattle.address.proofs.Fits.{all_illegal, all_bare}
 use Rattle.board.specs.declared.Part.{Part}
 use Rattle.address.specs.Pointers.{main_pointer, auxiliary_pointer}
