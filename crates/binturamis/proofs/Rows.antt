@@ -6,8 +6,8 @@ use mathlib.Core.List.{List}
 use mathlib.Core.Logic.{◌≢◌}
 use native.Mathlib.Omega.{arith}
 use Rattle.basics.proofs.Below.{count_at_most}
-use Rattle.command.specs.declared.answer.Drawing.{Drawing}
-use Rattle.command.specs.declared.answer.Drawing.TheVariants.{Accepted, WrongMemory, WrongRom, WrongPicture, NotBuilt, LowOrigin}
+use Rattle.std.proofs.Common.{Result, Ok, Err}
+use Rattle.command.specs.declared.answer.DrawRefusal.{DrawRefusal}
 use Rattle.command.specs.Answers.{draw_number_of, rows_of}
 use Rattle.page.specs.Marks.{is_marked}
 use Rattle.processor.specs.declared.state.Processor.{Processor}
@@ -19,13 +19,9 @@ abbrev Few : DrawOutcome → Type 0
 Few o = rows_of o.answer ≤ 25
 
 -- a refusal has none
-refused_few : (a : Drawing) → draw_number_of a ≢ 0 → rows_of a ≤ 25
-refused_few (Accepted n) refused = absurd (refused refl)
-refused_few WrongMemory refused = omega arith
-refused_few WrongRom refused = omega arith
-refused_few WrongPicture refused = omega arith
-refused_few NotBuilt refused = omega arith
-refused_few LowOrigin refused = omega arith
+refused_few : (a : Result ℕ DrawRefusal) → draw_number_of a ≢ 0 → rows_of a ≤ 25
+refused_few (Ok n) refused = absurd (refused refl)
+refused_few (Err why) refused = omega arith
 
 drawn_few : (p : Processor) (m rom picture : List ℕ) → Few (drawn p m rom picture)
 unfolding drawn_page

@@ -22,12 +22,12 @@ mod word;
 
 use access::{is_plain, past_32};
 use board::MEMORY_BYTES;
-use leave::{leave, leave_drawn, leave_written};
+use leave::{leave, leave_written};
 use packing::layout::{packed, unpacked};
 use packing::report::reported;
 use processor::state::Processor;
 use way::{unpacked_full, write_elsewhere, write_on_board};
-use word::power_word;
+use word::word;
 
 // Power-up of an EF9345 with 16 blocks, whatever the bytes held.
 pub fn binturamis_power_up(p: &mut [u8; 64])
@@ -41,10 +41,8 @@ pub fn binturamis_power_up_board(p: &mut [u8; 64], part: u8, blocks: u8) -> u32
     ensures { (p.new ≡ packed (powered_up_board part blocks).processor) × (result ≡ word (power_number_of (powered_up_board part blocks).answer) 0) }
 {
     let powered = Processor::power_up_board(part, blocks);
-    let first = powered.processor;
-    let answer = powered.answer;
-    *p = packed(first);
-    power_word(answer)
+    *p = packed(powered.processor);
+    word(powered.answer)
 }
 
 // A register is written; then the command runs, if the address asks for it. On 16 blocks while no move runs, with 0 for the board, a plain write stores
@@ -84,7 +82,7 @@ pub fn binturamis_read(p: &mut [u8; 64], memory: &mut [u8], address: u8) -> u32
         return before.register(address) as u32;
     }
     let answered = before.read(memory, address);
-    leave(p, answered)
+    leave(p, answered.processor, answered.answer)
 }
 
 // One character position of the move that runs; nothing where none does.
@@ -92,7 +90,7 @@ pub fn binturamis_step(p: &mut [u8; 64], memory: &mut [u8]) -> u32
     ensures { called p.new memory.new result ≡ call_of is_refusal p.old (stepped (chip (unpacked p.old) memory.old)) }
 {
     let answered = unpacked(*p).step(memory);
-    leave(p, answered)
+    leave(p, answered.processor, answered.answer)
 }
 
 // The phase change.
@@ -100,7 +98,7 @@ pub fn binturamis_turn(p: &mut [u8; 64], memory: &[u8], phase: u8) -> u32
     ensures { called p.new memory.now result ≡ call_of is_refusal p.old (turned phase (chip (unpacked p.old) memory.now)) }
 {
     let answered = unpacked(*p).turn(memory, phase);
-    leave(p, answered)
+    leave(p, answered.processor, answered.answer)
 }
 
 // The marked rows are redrawn and the marks cleared.
@@ -108,7 +106,7 @@ pub fn binturamis_draw(p: &mut [u8; 64], memory: &[u8], rom: &[u8], picture: &mu
     ensures { draw_called p.new picture.new result ≡ draw_call_of p.old (drawn (unpacked p.old) memory.now rom.now picture.old) }
 {
     let drawn = unpacked(*p).draw(memory, rom, picture);
-    leave_drawn(p, drawn)
+    leave(p, drawn.processor, drawn.answer)
 }
 
 // What the bytes hold, to be shown or compared. They stay as they are.

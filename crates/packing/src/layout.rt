@@ -21,25 +21,20 @@ fn board_byte(blocks: u8, busy: bool) -> u8
     idle
 }
 
-fn index(byte: u8) -> usize
-    ensures { result ≡ byte % 16 }
-{
-    (byte % 16) as usize
-}
-
 fn blocks_of(byte: u8) -> u8
     ensures { result ≡ blocks_of_byte byte }
 {
-    BOARDS[index(byte)]
+    BOARDS[usize::from(byte % 16)]
 }
 
 fn part_of(byte: u8) -> Part
     ensures { result ≡ part_of_byte byte }
 {
     if byte % 16 == 4 {
-        return Part::Ts9347;
+        Part::Ts9347
+    } else {
+        Part::Ef9345
     }
-    Part::Ef9345
 }
 
 // The processor of bytes of which the board and busy are known.

@@ -3,7 +3,6 @@ ghost use Rattle.std.specs.Prelude.{◌≡◌};
 ghost use Rattle.packing.specs.Reports.{reported};
 
 use crate::part::put_marks;
-use board::part_number;
 use processor::state::Processor;
 
 pub fn reported(p: Processor) -> [u8; 48]
@@ -29,8 +28,7 @@ pub fn reported(p: Processor) -> [u8; 48]
     bytes[12] = indirect[4];
     bytes[13] = indirect[7];
     bytes[14] = p.phase;
-    let part = p.part;
-    bytes[40] = part_number(part);
+    bytes[40] = u8::from(p.part);
     bytes[41] = p.blocks;
     put_marks(&mut bytes, 15, marks);
     bytes

@@ -7,4 +7,4 @@ use Rattle.binturamis.proofs.binturamis_power_up_board.Goals as goal
 
 pub returns : goal.returns
 returns c = let u = c.power_up_board-powered.ensures in
-    (c.packed.ensures.0 ∙ ap (λ (r : PoweredUp). packed r.processor) u, c.power_word.ensures ∙ ap (λ (r : PoweredUp). word (power_number_of r.answer) 0) u)
+    (c.packed.ensures.0 ∙ ap (λ (r : PoweredUp). packed r.processor) u, c.word.ensures ∙ ap (λ (r : PoweredUp). word (power_number_of r.answer) 0) u)
