@@ -13,6 +13,7 @@ use board::bytes_of;
 use command::answer::Refusal;
 use command::held::{is_read_held, is_write_held};
 use phases::phase::phase_marks;
+use shown::page::Page;
 
 // The high four bits of the address are 2.
 fn is_chosen(address: u8) -> bool
@@ -82,7 +83,11 @@ impl Processor {
         if self.phase == phase {
             return self.answering(Ok(0));
         }
-        self.marks = phase_marks(self.marks, self.shown(), memory);
+        let page = Page {
+            memory,
+            shown: self.shown(),
+        };
+        self.marks = phase_marks(self.marks, &page);
         self.phase = phase;
         self.answering(Ok(0))
     }

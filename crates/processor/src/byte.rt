@@ -14,6 +14,7 @@ use address::byte::load;
 use address::place::{block, block_at, place, place_at};
 use address::triple::Triple;
 use marking::store::{code_marks, store_marks};
+use shown::page::Page;
 
 // A store marks by the lists just before it.
 #[tactic(auto, unfolding(crate::specs::Bytes::stored))]
@@ -22,7 +23,11 @@ pub fn store(mut p: Processor, memory: &mut [u8], at: Triple, value: u8) -> Proc
     ensures { chip result memory.new ≡ stored at value (chip p memory.old) }
 {
     let before = p.marks;
-    let after = store_marks(before, p.shown(), memory, at, value);
+    let page = Page {
+        memory,
+        shown: p.shown(),
+    };
+    let after = store_marks(before, &page, at, value);
     let here = place(at);
     memory[here] = value;
     p.marks = after;
@@ -77,7 +82,11 @@ fn code_stored(mut p: Processor, memory: &mut [u8], at: Triple) -> Processor
     let a = p.registers[3];
     let before = p.marks;
     let here = place_at(at.x as u16, at.y as u16, 0);
-    let after = code_marks(before, p.shown(), memory, at, here, c, b, a);
+    let page = Page {
+        memory,
+        shown: p.shown(),
+    };
+    let after = code_marks(before, &page, at, here, c, b, a);
     memory[here + 1024 * block(at.z, 0) as usize] = c;
     memory[here + 1024 * block(at.z, 1) as usize] = b;
     memory[here + 1024 * block(at.z, 2) as usize] = a;

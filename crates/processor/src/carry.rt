@@ -13,6 +13,7 @@ use address::byte::load;
 use address::place::{block_at, place, place_at};
 use address::triple::Triple;
 use marking::span::span_marks;
+use shown::page::Page;
 
 // The byte at a triple, once a value is stored at a place: that value, where it is the same place.
 fn load_after(memory: &[u8], blocks: u8, at: Triple, stored: usize, value: u8) -> u8
@@ -99,10 +100,13 @@ pub fn carry_all(
         b,
     );
     let before = p.marks;
+    let page = Page {
+        memory,
+        shown: p.shown(),
+    };
     let after = span_marks(
         before,
-        p.shown(),
-        memory,
+        &page,
         to,
         here,
         bytes,

@@ -14,6 +14,7 @@ use address::place::place;
 use address::position::{attributes_at, both_halves, is_odd, nibble_into};
 use address::triple::Triple;
 use marking::store::narrow_marks;
+use shown::page::Page;
 
 // R1 from the C byte, R3 from the position's half of the attributes.
 #[tactic(auto, unfolding(crate::specs::Bytes::narrow_read))]
@@ -37,7 +38,11 @@ fn narrow_stored(mut p: Processor, memory: &mut [u8], at: Triple) -> Processor
     let beside = attributes_at(at);
     let a = nibble_into(is_odd(at), load(memory, p.blocks, beside), r3);
     let before = p.marks;
-    let after = narrow_marks(before, p.shown(), memory, at, c, a);
+    let page = Page {
+        memory,
+        shown: p.shown(),
+    };
+    let after = narrow_marks(before, &page, at, c, a);
     let here = place(at);
     let there = place(beside);
     memory[here] = c;
