@@ -7,6 +7,7 @@ ghost use Rattle.std.specs.Prelude.{◌≡◌, ◌/◌, ◌≤◌, length, IfOk}
 ghost use Rattle.panel.specs.Feeds.{feeding, fed_pairs};
 
 use board::MEMORY_BYTES;
+use command::answer::Numbered;
 use processor::state::Processor;
 use shown::length::{PICTURE_BYTES, ROM_BYTES, ROW_BYTES};
 use std::io;
@@ -95,6 +96,6 @@ fn main(rt: HostRuntime) -> io::Result<()> {
     let end = feed_all(start, &mut memory, &mut rt.reader())?;
     let drawn = end.processor.draw(&memory, &rom, &mut picture);
     let answer = drawn.answer;
-    print_numbers(&rt, end.last, answer.number(), answer.rows())?;
+    print_numbers(&rt, end.last, answer.number(), answer.value())?;
     print_bytes(&rt, &picture[ROW_BYTES..ROW_BYTES + 8])
 }
