@@ -2,4 +2,3 @@ pub mod Columns
 pub mod Tens
 pub mod Steps
 pub mod PlainCells
-pub mod SmallSlices

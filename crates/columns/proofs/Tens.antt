@@ -1,14 +1,18 @@
 -- Laws of a cell's ten bytes: which slice each line shows, and of it the half that is shown.
 -- Assumes nothing.
-use Prim.Native.Nat.{ℕ, ◌<◌}
-use mathlib.Core.Path.{◌≡◌, refl, ap, subst, ◌∙◌}
+use Prim.Native.Nat.{ℕ, ◌+◌, ◌*◌, ◌%◌, ◌<◌}
+use mathlib.Core.Path.{◌≡◌, refl, ap, ◌∙◌}
 use mathlib.Core.Bool.{Bool, true, false}
 use mathlib.Core.List.{List}
+use native.Mathlib.Omega.{arith}
 use lib.ListN.{length, get_or}
 use Rattle.basics.specs.Bits.{from_bits}
 use Rattle.basics.specs.Parts.{table}
 use Rattle.basics.proofs.Bits.{byte_number}
 use Rattle.basics.proofs.Parts.{table_at, table_same, table_of}
+use Rattle.std.specs.Prelude.{Ok, Err}
+use Rattle.address.specs.Addresses.{Address, byte_from}
+use Rattle.address.specs.Slices.{slice_address}
 use Rattle.board.specs.declared.Part.{Part}
 use Rattle.board.specs.declared.Part.TheVariants.{Ef9345, Ts9347}
 use Rattle.shown.specs.declared.Shown.{Shown}
@@ -17,12 +21,33 @@ use Rattle.cell.specs.Cells.{are_both_set, bichrome_of, cell_of}
 use Rattle.pixels.specs.Slices.{slice_shown}
 use Rattle.pixels.specs.Pixels.{taken_bit}
 use Rattle.pixels.specs.HowPairs.{wide_of}
-use Rattle.sources.specs.Sources.{slices_of}
+use Rattle.sources.specs.Sources.{character_of, cell_source, kept_slice, rom_slice, slice_from, slices_of}
+use Rattle.sources.specs.declared.source.Source.{Source}
+use Rattle.sources.specs.declared.source.Source.TheVariants.{Rom, Block}
 use Rattle.page.specs.Halves.{is_wide}
 use Rattle.page.specs.Inputs.{decoded}
 use Rattle.slices.specs.HowSlices.{by_number}
 use Rattle.slices.proofs.Slices.{shown_small}
 use Rattle.columns.specs.HowTens.{doubled_of, ten_of}
+
+-- a slice from memory or ROM whose elements are bytes is a byte
+module _ (m rom : List ℕ) (m-small : (i : ℕ) → get_or m i 0 < 256) (rom-small : (i : ℕ) → get_or rom i 0 < 256) where
+  kept_small : (blocks c z n : ℕ) → kept_slice blocks m c z n < 256
+  unfolding kept_slice
+  kept_small blocks c z n = go (slice_address blocks c n z)
+    where
+      go : (at : Address) → byte_from m at < 256
+      go (Err why) = omega arith
+      go (Ok p) = m-small p
+
+  from_small : (blocks c : ℕ) (source : Source) (n : ℕ) → slice_from blocks m rom c source n < 256
+  unfolding rom_slice
+  from_small blocks c (Rom set) n = rom-small (1280 * set + 10 * (c % 128) + n)
+  from_small blocks c (Block z) n = kept_small blocks c z n
+
+  pub slice_small : (shown : Shown) (cell : Cell) (n : ℕ) → slices_of m rom shown cell n < 256
+  unfolding slices_of
+  slice_small shown cell n = from_small shown.blocks (character_of cell) (cell_source shown cell) n
 
 -- the ten bytes of a cell, from its slices and those that its lines show
 module _ (m rom : List ℕ) (shown : Shown) (cell : Cell) (lower right : Bool) (ten slices : List ℕ)
@@ -40,11 +65,11 @@ module _ (m rom : List ℕ) (shown : Shown) (cell : Cell) (lower right : Bool) (
       table_same _ _ 10 (λ n l. rw w (ap (λ (s : ℕ). from_bits (taken_bit true right s) 8) (shown_at n l)))
 
   pub ten_whole :
-      ((n : ℕ) → get_or ten n 0 < 256) → length ten ≡ 10 → wide_of cell ≡ false → ten ≡ ten_of m rom shown cell lower right
+      ((i : ℕ) → get_or m i 0 < 256) → ((i : ℕ) → get_or rom i 0 < 256) → length ten ≡ 10 → wide_of cell ≡ false → ten ≡ ten_of m rom shown cell lower right
   unfolding ten_of
-  ten_whole small h w =
+  ten_whole m-small rom-small h w =
       table_of ten 10 0 h
-      ∙ table_same _ _ 10 (λ n l. rw w (shown_at n l ∙ byte_number _ (subst (λ (s : ℕ). s < 256) (shown_at n l) (small n))))
+      ∙ table_same _ _ 10 (λ n l. rw w (shown_at n l ∙ byte_number _ (slice_small m rom m-small rom-small shown cell (slice_shown cell lower n))))
 
 -- a cell of either part is of double width where its code is
 pub wide_code : (part : Part) (code : List ℕ) → is_wide code ≡ wide_of (decoded part code)

@@ -10,7 +10,7 @@ use page::code::is_wide;
 use pixels::width::doubled;
 use shown::page::Scene;
 use slices::slice::shown_slices;
-use sources::source::slices_of;
+use sources::source::{rom_set, rom_slices, slices_of};
 use std::array;
 
 // Of each of ten slices the half that is shown.
@@ -20,15 +20,15 @@ pub fn doubled_slices(right: bool, slices: [u8; 10]) -> [u8; 10]
     array::from_fn(|n| doubled(right, slices[n]))
 }
 
-// Each line of a plain cell, as most cells of a page of text are, shows the whole slice of its own number.
+// Each line of a plain cell, as most cells of a page of text are, shows the whole slice of its own number, which is in the ROM.
 pub fn ten_of(scene: &Scene, code: [u8; 3], lower: bool, right: bool) -> [u8; 10]
     ensures { result ≡ ten_of scene.now.page.memory.now scene.now.rom.now scene.now.page.shown (decoded scene.now.page.shown.part code) lower right }
 {
-    let slices = slices_of(scene, code);
+    let part = scene.page.shown.part;
     if is_plain(code[1]) {
-        return slices;
+        return rom_slices(scene.rom, code[0], rom_set(part, code[1]));
     }
-    let ten = shown_slices(scene.page.shown.part, code, lower, slices);
+    let ten = shown_slices(part, code, lower, slices_of(scene, code));
     if is_wide(code) {
         return doubled_slices(right, ten);
     }

@@ -30,7 +30,7 @@ use Rattle.lines.specs.HowLines.{lined_byte, byte_on, bytes_on, four_of, line_on
 use Rattle.shown.proofs.Lengths.{columns_long}
 use Rattle.columns.proofs.Columns.{side_at, side_column}
 use Rattle.columns.proofs.Steps.{steps_four, pairs_back}
-use Rattle.columns.proofs.SmallSlices.{slice_small}
+use Rattle.columns.proofs.Tens.{slice_small}
 
 -- a packed line of forty columns
 pub line_long :

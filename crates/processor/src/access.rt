@@ -46,10 +46,7 @@ impl Processor {
     {
         let held = is_write_held(self.busy, address, value);
         match self.admits(memory.len(), address, held) {
-            Ok(()) => {
-                self = self.with_register(address, value);
-                execute(self, memory, address, 0)
-            }
+            Ok(()) => execute(self.with_register(address, value), memory, address, 0),
             Err(refusal) => self.answering(Err(refusal)),
         }
     }
