@@ -1,18 +1,24 @@
 -- Laws of sources and slices: a source is one of the five ROM sets or of the sixteen blocks that registers can name, and the slices of a character are in one block.
 -- Assumes nothing.
 use Prim.Native.Nat.{ℕ, ◌+◌, ◌*◌, ◌/◌, ◌%◌, ◌<◌, ◌≤◌}
-use mathlib.Core.Path.{◌≡◌, sym, ap, ◌∙◌}
+use mathlib.Core.Path.{◌≡◌, refl, sym, ap, ◌∙◌}
 use mathlib.Core.Bool.{Bool, true, false}
 use mathlib.Core.List.{List}
 use native.Mathlib.Omega.{arith}
 use lib.ListN.{length, get_or}
 use Rattle.basics.specs.Parts.{table}
 use Rattle.basics.proofs.Parts.{table_same}
-use Rattle.address.specs.Addresses.{byte_from}
+use borrow.Author.Tests.{le-ltb}
+use Rattle.std.specs.Prelude.{Ok, Err}
+use Rattle.basics.specs.Choice.{pick}
+use Rattle.address.specs.Addresses.{address_of, byte_from}
+use Rattle.address.specs.declared.answer.NoPlace.TheVariants.{Illegal, NotFitted}
+use Rattle.address.specs.declared.triple.Triple.{Triple}
+use Rattle.address.proofs.Places.{place_fits}
 use Rattle.board.specs.Boards.{bytes_of}
 use Rattle.address.specs.Places.{place_of, place_at, byte_at}
 use Rattle.address.specs.Slices.{slice_x, slice_y, slice_at, slice_address}
-use Rattle.address.specs.Triples.{legal_y, legal}
+use Rattle.address.specs.Triples.{legal_y, legal, fitted}
 use Rattle.address.proofs.Addresses.{address_illegal, byte_kept}
 use Rattle.address.proofs.Laws.{good_column}
 use Rattle.shown.specs.declared.Shown.{Shown}
@@ -62,6 +68,18 @@ slice_place c n z p e =
     let y : c / 4 % 32 ≡ slice_y c = omega arith in
     e ∙ rw (x, y)
 
+pub slice_fits : (m : List ℕ) (c n z p : ℕ) → p ≡ place_at (slice_at c n z) → n < 10 → 1024 * z + 1024 ≤ length m → p < length m
+slice_fits m c n z p e l h = omega (arith, place_fits (z + 1) (slice_x c n) (slice_y c) z (omega arith) (omega arith) (omega arith))
+
+-- a byte in a block that is not fitted is 0
+bare_byte : (m : List ℕ) (blocks : ℕ) (t : Triple) → fitted blocks t ≡ false → byte_from m (address_of blocks t) ≡ 0
+unfolding address_of
+bare_byte m blocks t e = rw e (go (legal t))
+  where
+    go : (b : Bool) → byte_from m (pick b (pick false (Ok (place_at t)) (Err NotFitted)) (Err Illegal)) ≡ 0
+    go true = refl
+    go false = refl
+
 -- the ten slices of a character have one Y and one block
 module _ (blocks : ℕ) (m : List ℕ) (c z : ℕ) where
   lawful : (n : ℕ) → n < 10 → legal (slice_at c n z) ≡ legal_y (slice_y c)
@@ -77,6 +95,10 @@ module _ (blocks : ℕ) (m : List ℕ) (c z : ℕ) where
         ok ≡ true → length m ≡ bytes_of blocks → table (λ n. byte_at m (place_at (slice_at c n z))) 10 ≡ table (kept_slice blocks m c z) 10
     unfolding kept_slice slice_address
     slices_read e whole = table_same _ _ 10 (λ n l. sym (byte_kept blocks (slice_at c n z) m whole (lawful n l ∙ sym lawful_y ∙ e)))
+
+    pub slices_bare : blocks ≤ z → table (λ n. 0) 10 ≡ table (kept_slice blocks m c z) 10
+    unfolding kept_slice slice_address
+    slices_bare l = table_same _ _ 10 (λ n k. sym (bare_byte m blocks (slice_at c n z) (le-ltb z blocks l)))
 
     pub slices_none : ok ≡ false → table (λ n. 0) 10 ≡ table (kept_slice blocks m c z) 10
     unfolding kept_slice slice_address

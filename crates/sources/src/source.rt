@@ -9,7 +9,6 @@ ghost use Rattle.cell.specs.Cells.{cell_of};
 ghost use Rattle.sources.specs.Sources.{cell_source, kept_slice, rom_slice, slices_of};
 ghost use Rattle.sources.specs.HowSources.{sets_from, set_number, user_block};
 
-use address::byte::byte_or_zero;
 use address::place::place_at;
 use address::triple::is_legal_y;
 use board::Part;
@@ -70,26 +69,32 @@ pub fn source_of(shown: Shown, code: [u8; 3]) -> Source
     Source::Block(user_block(shown.dor, b))
 }
 
-// The ten slices of a character in private memory, where they are read. A byte that is not fitted, past the end of memory, is 0.
-fn read_slices(memory: &[u8], c: u8, z: u8) -> [u8; 10]
-    ensures { result ≡ table (λ n. byte_at memory.now (place_at (slice_at c n z))) 10 }
+// The ten slices of a character in a block that is fitted.
+fn fitted_slices(page: &Page, c: u8, z: u8) -> [u8; 10]
+    requires { z < page.now.shown.blocks }
+    ensures { result ≡ table (λ n. byte_at page.now.memory.now (place_at (slice_at c n z))) 10 }
 {
-    array::from_fn(|n| {
-        byte_or_zero(
-            memory,
-            place_at(n as u16 * 4 + c as u16 % 4, c as u16 / 4 % 32, z as u16),
-        )
-    })
+    let memory = page.memory;
+    array::from_fn(
+        |n|
+            requires { (n < 10) × (1024 * z + 1024 ≤ length memory.now) }
+            ensures { result ≡ byte_at memory.entry.now (place_at (slice_at c n z)) }
+        { memory[place_at(n as u16 * 4 + c as u16 % 4, c as u16 / 4 % 32, z as u16)] },
+    )
 }
 
-// The ten slices of a character in private memory: 0 where no byte is read. They have one Y, so that one test of it tells it for all of them.
+// The ten slices of a character in private memory: 0 where no byte is read. They have one Y and one block, so that one test of each tells it for all
+// of them.
 pub fn kept_slices(page: &Page, c: u8, z: u8) -> [u8; 10]
     ensures { result ≡ table (kept_slice page.now.shown.blocks page.now.memory.now c z) 10 }
 {
     if !is_legal_y(c / 4 % 32) {
         return [0; 10];
     }
-    read_slices(page.memory, c, z)
+    if page.shown.blocks <= z {
+        return [0; 10];
+    }
+    fitted_slices(page, c, z)
 }
 
 // The ten slices of a character stand side by side in the ROM.
