@@ -35,7 +35,7 @@ pub fn ten_of(scene: &Scene, code: [u8; 3], lower: bool, right: bool) -> [u8; 10
     ten
 }
 
-// The ten bytes of each cell of a row, line after line.
+// The ten bytes of each cell of a row, line after line. Three arrays are read at x: a zip of the three is no plainer.
 pub fn tens_of(
     scene: &Scene,
     cells: [[u8; 3]; 40],
