@@ -1,12 +1,11 @@
 // The ten bytes of a character of G0.
-ghost use Rattle.std.specs.Prelude.{◌≡◌, length, get_or, ◌<◌, ◌%◌, eqb};
+ghost use Rattle.std.specs.Prelude.{◌≡◌, length, get_or, ◌<◌, ◌≤◌, ◌%◌, eqb};
 ghost use Rattle.basics.specs.Parts.{table};
 ghost use Rattle.narrow.specs.HowTens.{shaded_of, narrow_ten};
 ghost use Rattle.narrow.specs.HowText.{hidden};
 
 use crate::pair::Narrow;
 use shown::Shown;
-use shown::page::Scene;
 use std::array;
 
 // Six bits of a slice, inverted or not, and D, the lowest bit of the attributes.
@@ -36,17 +35,17 @@ fn is_hidden(shown: Shown, cell: Narrow) -> bool
         && shown.phase != cell.attributes / 8 % 2
 }
 
-pub fn text_ten(scene: &Scene, cell: Narrow) -> [u8; 10]
-    requires { cell.character < 128 }
-    ensures { result ≡ narrow_ten scene.now.rom.now scene.now.page.shown cell }
+pub fn text_ten(rom: &[u8], shown: Shown, cell: Narrow) -> [u8; 10]
+    requires { (1280 ≤ length rom.now) × (cell.character < 128) }
+    ensures { result ≡ narrow_ten rom.now shown cell }
 {
     let negative = cell.attributes / 8 % 2 == 1;
-    if is_hidden(scene.page.shown, cell) {
+    if is_hidden(shown, cell) {
         let none = shaded(0, negative, cell.attributes);
         return [none; 10];
     }
     let first = cell.character as usize * 10;
-    let mut ten = shaded_ten(&scene.rom[first..first + 10], negative, cell.attributes);
+    let mut ten = shaded_ten(&rom[first..first + 10], negative, cell.attributes);
     if cell.attributes / 2 % 2 == 1 {
         ten[9] = shaded(255, negative, cell.attributes);
     }

@@ -25,7 +25,8 @@ pub fn redraw_eighty(picture: &mut [u8], scene: &Scene, marks: [bool; 25]) -> us
         let here = row_buffer(&scene.page, r as u8);
         draw_row(
             &mut picture[EIGHTY_ROW_BYTES * r..EIGHTY_ROW_BYTES * r + EIGHTY_ROW_BYTES],
-            scene,
+            scene.rom,
+            scene.page.shown,
             &inks,
             here,
         );

@@ -7,4 +7,4 @@ use Prim.Native.Nat.{◌*◌}
 use Rattle.eighty.proofs.ten.tens_of.Given as goal
 
 abbrev pub invariant-loop-x : goal.invariant-loop-x
-invariant-loop-x l = (length l.bytes ≡ 800) × (take (20 * l.x) l.bytes ≡ joined (λ i. pair_tens l.scene.rom.now l.scene.page.shown (get_or l.code-items i [])) l.x)
+invariant-loop-x l = (length l.bytes ≡ 800) × (take (20 * l.x) l.bytes ≡ joined (λ i. pair_tens l.rom l.shown (get_or l.code-items i [])) l.x)
