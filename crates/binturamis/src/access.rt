@@ -33,6 +33,7 @@ pub fn past_32(address: u8) -> u8
 }
 
 // The answer of a write that is refused by 1, 2 or 10; 0 for any other.
+// (Still to be written as an Option of a refusal, with `word` making the number.)
 pub fn early(memory: usize, blocks: u8, busy: bool, address: u8, value: u8) -> u32
     ensures { result ≡ pick (eqb memory (bytes_of blocks)) (pick (eqb (bits 4 4 address) 2) (pick (busy && is_write_held address value) (word 10 0) 0) (word 2 0)) (word 1 0) }
 {

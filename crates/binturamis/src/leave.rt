@@ -23,8 +23,9 @@ pub fn leave<A: Numbered + Copy>(p: &mut [u8; 64], after: Processor, answer: A) 
     requires { A.valued answer < 65536 }
     ensures { (p.new ≡ bytes_after (is_refusal (A.numbered answer)) p.old after) × (result ≡ word (A.numbered answer) (A.valued answer)) }
 {
-    if answer.number() == 0 {
-        *p = packed(after);
+    if answer.number() != 0 {
+        return word(answer);
     }
+    *p = packed(after);
     word(answer)
 }

@@ -25,11 +25,8 @@ fn feed(start: Fed, memory: &mut [u8], chunk: &[u8]) -> Fed
     ensures { feeding result memory.new ≡ fed_pairs chunk.now (feeding start memory.old) (length chunk.now / 2) }
 {
     let mut state = start;
-    let pairs = chunk.len() / 2;
-    for i in 0..pairs {
-        let answered = state
-            .processor
-            .write(memory, chunk[2 * i], chunk[2 * i + 1]);
+    for pair in chunk.chunks_exact(2) {
+        let answered = state.processor.write(memory, pair[0], pair[1]);
         let next = answered.processor;
         let answer = answered.answer;
         state = Fed {

@@ -1,11 +1,9 @@
+use Rattle.std.proofs.Common.{◌≡◌, ◌≤◌, length, drop, ◌*◌}
 use Rattle.panel.specs.Feeds.{feeding, fed_pairs}
-use lib.ListN.{length}
-use mathlib.Core.Path.{◌≡◌}
-use Prim.Native.Nat.{◌≤◌, ◌-◌}
 use Rattle.panel.proofs.feed.Given as goal
 
-abbrev pub invariant-loop-i : goal.invariant-loop-i
-invariant-loop-i l = (l.i ≤ l.pairs) × (length l.memory ≡ length l.initial.memory) × (feeding l.state l.memory ≡ fed_pairs l.chunk (feeding l.initial.state l.initial.memory) l.i)
-
-abbrev pub decreases-loop-i : goal.decreases-loop-i
-decreases-loop-i l = l.pairs - l.i
+abbrev pub invariant-loop-pair : goal.invariant-loop-pair
+invariant-loop-pair l =
+    (length l.memory ≡ length l.initial.memory) × (l.pair-iterator.size ≡ 2) × (2 * length l.yielded ≤ length l.chunk)
+    × (l.pair-iterator.rest.now ≡ drop (2 * length l.yielded) l.chunk)
+    × (feeding l.state l.memory ≡ fed_pairs l.chunk (feeding l.initial.state l.initial.memory) (length l.yielded))

@@ -1,24 +1,15 @@
-use Rattle.packing.proofs.Parts.{put_end, put_mark}
-use native.Mathlib.Omega.{arith}
-use mathlib.Core.Path.{◌≡◌, refl}
+use mathlib.Core.Path.{◌≡◌, ◌∙◌}
 use mathlib.Core.List.{map}
-use lib.ListN.{length, length-set}
-use lib.Seq.{paste-zero}
-use Rattle.basics.specs.Choice.{one_if}
+use lib.ListN.{length}
 use borrow.Author.Rules.{rules}
+use Rattle.std.proofs.lemmas.Slice.{put_mid-paste}
+use Rattle.basics.proofs.Made.{table_made}
+use Rattle.basics.specs.Choice.{one_if}
+use Rattle.packing.proofs.Parts.{ones_made}
 use Rattle.packing.proofs.part.put_marks.Goals as goal
 
-pub loop-r-init : goal.loop-r-init
-loop-r-init c = let a = c.args in
-    (omega arith, refl, paste-zero a.bytes.now a.start (map one_if a.marks))
-
-pub loop-r-preserved : goal.loop-r-preserved
-loop-r-preserved c = let l = c.loop-r in
-    let a = c.args in
-    let n : length a.marks ≡ 25 = search rules in
-    (omega arith, simp length-set l.invariant.1, put_mark a.bytes.now a.start a.marks l.bytes l.r _ l.invariant.2 c.flag.ensures (omega arith) (omega arith))
-
 pub returns : goal.returns
-returns c = let l = c.loop-r in
-    let a = c.args in
-    put_end a.bytes.now a.start (map one_if a.marks) _ 25 l.r l.invariant.2 (omega arith) (omega arith)
+returns c = let a = c.args in
+    let n : length a.marks ≡ 25 = search rules in
+    let made : c.from_fn-ones.result ≡ map one_if a.marks = table_made _ _ _ c.from_fn-ones.result 25 c.from_fn-ones.ensures.items (λ r x q l call. search rules) ∙ ones_made 25 a.marks n in
+    search (put_mid-paste, rules)
