@@ -6,7 +6,8 @@ ghost use Rattle.address.specs.HowPointers.{pointer_of};
 use crate::triple::Triple;
 use board::Part;
 
-// A triple from how many eights Z has, the register that has Y and Z2, and the one that has X: its bit 7 is Z0 and its bit 6 is Z1.
+// A triple from how many eights Z has, the register that has Y and Z2, and the one that has X: its bit 7 is Z0 and
+// its bit 6 is Z1.
 fn pointer(eights: u8, y: u8, x: u8) -> Triple
     requires { eights < 4 }
     ensures { result ≡ pointer_of eights y x }

@@ -20,7 +20,7 @@ use page::stretch::some_below;
 
 // The question is answered yes for a cell of the row at Y. It is asked of where the cell's bytes stand in their blocks.
 // Where a row has such a cell, one on its left is most often, so the 32 left columns are asked in two halves, and then
-// the 8 right ones.
+// the 8 right ones. Always compiled into its caller, so that the question stands in the loop.
 #[inline(always)]
 fn some_in_row<F: Fn(usize) -> bool>(y: u8, question: F) -> bool
     requires { (y < 32) × ((at : ℕ) → at < 1024 → F.pre question at) }
@@ -102,7 +102,7 @@ pub fn has_tall(part: Part, memory: &[u8], z: u8, y: u8) -> bool
     }
 }
 
-// A cell that flashes, of an EF9345.
+// A cell that flashes, of an EF9345. Always compiled into its caller, the loop over the rows.
 #[inline(always)]
 pub fn has_flash(memory: &[u8], z: u8, y: u8) -> bool
     requires { Has memory.now z 1 × Has memory.now z 2 × (y < 32) }

@@ -2,7 +2,7 @@
 #![tactic(auto)]
 
 ghost use Rattle.std.specs.Prelude.{◌≡◌};
-ghost use Rattle.board.specs.Boards.{part_number, is_board, bytes_of};
+ghost use Rattle.board.specs.Boards.{part_named, part_number, is_board, bytes_of};
 ghost use Rattle.board.specs.Numbers.{Names};
 
 #[derive(Clone, Copy, Debug, PartialEq, Eq)]
@@ -24,6 +24,16 @@ pub const MEMORY_BYTES: usize = 1024 * 16;
 pub const TS9347_BLOCKS: u8 = 32;
 
 pub const TS9347_MEMORY_BYTES: usize = 1024 * 32;
+
+// Whatever the number is: one that no part has counts as a TS9347's. `try_from` refuses it.
+pub fn part_named(number: u8) -> Part
+    ensures { result ≡ part_named number }
+{
+    match number {
+        0 => Part::Ef9345,
+        _ => Part::Ts9347,
+    }
+}
 
 impl TryFrom<u8> for Part {
     type Error = UnknownPart;

@@ -50,7 +50,8 @@ pub fn set_of(part: Part, b: u8) -> Set
     }
 }
 
-// (A line for each set, and no `matches!`: a set that is added must be sorted here, and the prover shows a wrong line by its set.)
+// (A line for each set, and no `matches!`: a set that is added must be sorted here, and the prover shows a wrong
+// line by its set.)
 pub fn is_alphanumeric(set: Set) -> bool
     ensures { result ≡ alphanumeric_of set }
 {

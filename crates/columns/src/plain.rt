@@ -1,4 +1,5 @@
-// Cells of a ROM set, of single height and width: most cells of a page of text. Each line shows the slice of its own number.
+// Cells of a ROM set, of single height and width: most cells of a page of text. Each line shows the slice of its own
+// number.
 ghost use Rattle.std.specs.Prelude.{◌≡◌};
 ghost use Rattle.columns.specs.HowTens.{is_plain};
 

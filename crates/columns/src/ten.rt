@@ -20,7 +20,8 @@ pub fn doubled_slices(right: bool, slices: [u8; 10]) -> [u8; 10]
     array::from_fn(|n| doubled(right, slices[n]))
 }
 
-// Each line of a plain cell, as most cells of a page of text are, shows the whole slice of its own number, which is in the ROM.
+// Each line of a plain cell, as most cells of a page of text are, shows the whole slice of its own number, which is
+// in the ROM.
 pub fn ten_of(scene: &Scene, code: [u8; 3], lower: bool, right: bool) -> [u8; 10]
     ensures { result ≡ ten_of scene.now.page.memory.now scene.now.rom.now scene.now.page.shown (decoded scene.now.page.shown.part code) lower right }
 {

@@ -1,5 +1,6 @@
-// The answers: each is a Result, and its error is a refusal. The page gives an answer a number, 0 where nothing is refused, and a value.
-ghost use Rattle.std.specs.Prelude.{◌≡◌, ℕ, Err};
+// The answers: each is a Result, and its error is a refusal. The page gives an answer a number, 0 where nothing is
+// refused, and a value.
+ghost use Rattle.std.specs.Prelude.{◌≡◌, ◌<◌, ℕ, Err};
 ghost use Rattle.command.specs.Answers.{number_of, value_of, power_number_of, draw_number_of, rows_of};
 ghost use Rattle.command.specs.declared.answer.BoardRefusal.{BoardRefusal};
 
@@ -140,7 +141,10 @@ impl Numbered for Answer {
         }
     }
 
-    fn value(self) -> usize {
+    fn value(self) -> usize
+        ensures value { result ≡ value_of self }
+        ensures byte { result < 256 }
+    {
         match self {
             Ok(v) => usize::from(v),
             Err(refusal) => usize::from(refusal.value()),

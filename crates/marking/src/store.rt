@@ -44,7 +44,8 @@ pub fn change_marks(marks: &mut [bool; 25], page: &Page, x: u8, y: u8, blocks: [
     }
 }
 
-// The same of marks by value. Most often no block is there, and nothing is to be marked.
+// The same of marks by value. Most often no block is there, and nothing is to be marked. Always compiled into its callers:
+// as a call it costs each store some seventy instructions.
 #[inline(always)]
 pub fn marks_after(mut marks: [bool; 25], page: &Page, x: u8, y: u8, blocks: [u8; 3]) -> [bool; 25]
     requires { (on_page x y ≡ true) × AllFitted page.now.shown.blocks blocks }

@@ -7,7 +7,8 @@ use address::fitted::has_district;
 use address::place::block;
 use address::triple::Triple;
 
-// Some of them does not. On a board that has the whole district one comparison tells it.
+// Some of them does not. On a board that has the whole district one comparison tells it. (A loop: of `any` over the numbers
+// the check finds no proof.)
 pub fn is_bare(blocks: u8, at: Triple, bytes: u8) -> bool
     ensures { result ≡ any_below (is_bare_in blocks at) bytes }
 {

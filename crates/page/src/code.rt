@@ -7,7 +7,6 @@ ghost use Rattle.page.specs.Codes.{row_buffer};
 ghost use Rattle.page.specs.Halves.{is_wide};
 ghost use Rattle.page.specs.HowCodes.{code_of, is_fitted, Has};
 
-use address::byte::byte_or_zero;
 use address::place::{block, place_at};
 use address::row::row_y;
 use shown::Shown;
@@ -35,7 +34,8 @@ pub fn block_start(z: u8, k: u8) -> usize
     1024 * block(z, k) as usize
 }
 
-// The forty bytes at Y of block z: those of the left columns stand side by side, and those of the right ones. Where the block is not fitted they are 0.
+// The forty bytes at Y of block z: those of the left columns stand side by side, and those of the right ones. Where
+// the block is not fitted they are 0.
 fn bytes_at(page: &Page, z: u8, y: u8) -> [u8; 40]
     requires { y < 32 }
     ensures { result ≡ table (λ x. byte_at page.now.memory.now (place_of x y z)) 40 }

@@ -25,7 +25,8 @@ fn differs(phase: u8, negative: bool) -> bool
     phase != u8::from(negative)
 }
 
-// Flash with PAT 6 makes it 0 when the phase differs from the negative bit. (By `&`: of `&&` a proof has a way for each test.)
+// Flash with PAT 6 makes it 0 when the phase differs from the negative bit. (By `&`: of `&&` a proof has a way for
+// each test.)
 pub fn flash(cell: BichromeCell, shown: Shown, bit: bool) -> bool
     ensures { result ≡ flashed cell shown bit }
 {

@@ -1,5 +1,6 @@
 // Bytes of private memory through the pointers: OCT and KRF at a pointer whose bytes are legal and fitted.
-// OCT, KRF and KRL share only their frame (clear, reach the memory, increment): one function for them would take all that they do as closures.
+// OCT, KRF and KRL share only their frame (clear, reach the memory, increment): one function for them would take all
+// that they do as closures.
 ghost use Rattle.std.specs.Prelude.{◌≡◌, true, false, length};
 ghost use Rattle.board.specs.Boards.{bytes_of};
 ghost use Rattle.address.specs.Places.{block_at};

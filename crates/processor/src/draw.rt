@@ -25,7 +25,8 @@ fn none_marked() -> [bool; 25]
     [false; 25]
 }
 
-// The marked rows are redrawn, unless 1, 5, 7, 6 or 8 refuses it, in this order. Memory and ROM are lent for as long as one another, as the scene wants it.
+// The marked rows are redrawn, unless 1, 5, 7, 6 or 8 refuses it, in this order. Memory and ROM are lent for as long
+// as one another, as the scene wants it.
 #[tactic(auto, unfolding(crate::specs::Draws::drawn, crate::specs::Draws::drawn_page))]
 fn redrawn<'a>(p: Processor, memory: &'a [u8], rom: &'a [u8], picture: &mut [u8]) -> Drawing
     ensures { MatchResult result

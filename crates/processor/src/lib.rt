@@ -1,5 +1,7 @@
-// The processor: power-up, registers and commands, steps of a move, the phase and the draw. Its state is handed on as a value, and memory is
-// lent beside it. So what stores asks for memory's length by the board of the state that it was given: a struct of both would no longer hand
+// The processor: power-up, registers and commands, steps of a move, the phase and the draw. Its state is handed on
+// as a value, and memory is
+// lent beside it. So what stores asks for memory's length by the board of the state that it was given: a struct of
+// both would no longer hand
 // on the state as a value.
 #![tactic(auto)]
 

@@ -14,7 +14,8 @@ use lines::line::line;
 use shown::length::LINE_BYTES;
 use shown::page::Scene;
 
-// The ten lines, each built by value and then copied. They are found by their numbers: of a slice that was lent in parts by `chunks_exact_mut`
+// The ten lines, each built by value and then copied. They are found by their numbers: of a slice that was lent in
+// parts by `chunks_exact_mut`
 // a proof knows its length, and not what stands in it.
 fn draw_lines(
     lent: &mut [u8],

@@ -1,4 +1,5 @@
-// What a page is drawn from. That its bytes are bytes is written out, since a proof does not know it of what stands behind two references.
+// What a page is drawn from. That its bytes are bytes is written out, since a proof does not know it of what stands
+// behind two references.
 ghost use Rattle.std.specs.Prelude.{◌≡◌, ◌<◌, length};
 ghost use Rattle.board.specs.Boards.{bytes_of};
 ghost use Rattle.shown.specs.Lengths.{rom_bytes};

@@ -83,7 +83,8 @@ fn fitted_slices(page: &Page, c: u8, z: u8) -> [u8; 10]
     )
 }
 
-// The ten slices of a character in private memory: 0 where no byte is read. They have one Y and one block, so that one test of each tells it for all
+// The ten slices of a character in private memory: 0 where no byte is read. They have one Y and one block, so that
+// one test of each tells it for all
 // of them.
 pub fn kept_slices(page: &Page, c: u8, z: u8) -> [u8; 10]
     ensures { result ≡ table (kept_slice page.now.shown.blocks page.now.memory.now c z) 10 }
