@@ -32,7 +32,7 @@ use Rattle.processor.specs.States.{Chip, chip, register_of, with_register, with_
 use Rattle.processor.specs.Pointers.{pointer_of}
 use Rattle.processor.specs.Bytes.{stored}
 use Rattle.processor.specs.Access.{is_astray, is_unfitted, idle}
-use Rattle.processor.specs.HowCarried.{stored_if}
+use Rattle.processor.specs.HowCarried.{stored_if, stored_all, last_of}
 use Rattle.processor.specs.Moves.{carried, carried_all, position, passed_on, position_of, moved, step_of}
 use Rattle.processor.proofs.Laws.{auxiliary_x_lem, main_x_lem}
 
@@ -64,15 +64,39 @@ module _ (from to : Triple) (k : Chip) (shown : Shown) (after : List Bool) (i0 i
       unfolding carried_all carried stored stores_marks code_stores
       three_left e2 e3 en = rw (ea, en, es, e3, eb, e0, e1, e2, ec, set-set, set-set)
 
--- as the code does it, by the number of bytes
+-- all at the end, by the number of bytes
 pub all_left :
+    (from to : Triple) (k : Chip) (shown : Shown) (after : List Bool) (i0 i1 i2 c b a n : ℕ) → 1 ≤ n → n ≤ 3 → shown ≡ shown_of k.processor →
+    i0 ≡ place_at (block_at to 0) → i1 ≡ place_at (block_at to 1) → i2 ≡ place_at (block_at to 2) → c ≡ loaded (block_at from 0) k.memory →
+    (ltb 1 n ≡ true → b ≡ loaded (block_at from 1) (set k.memory i0 c)) →
+    (ltb 2 n ≡ true → a ≡ loaded (block_at from 2) (set (set k.memory i0 c) i1 b)) →
+    after ≡ stores_marks shown k.memory (take n (code_stores to c b a)) k.processor.marks → (v : ℕ) (m : List ℕ) → v ≡ last_of n c b a →
+    m ≡ stored_all n i0 c i1 b i2 a k.memory → chip (with_marks (with_register k.processor 1 v) after) m ≡ carried_all n from to k
+unfolding last_of stored_all
+all_left from to k shown after i0 i1 i2 c b a n l h es e0 e1 e2 ec eb ea em v m ev f =
+    ⊎_elim
+    (λ (e : n ≡ 1).
+    rw (f, ev, e) (one_left from to k shown after i0 i1 i2 c b a es e0 ec n em e))
+    (λ (x : n ≡ 1 → ⊥).
+    ⊎_elim
+    (λ (e : n ≡ 2).
+    rw (f, ev, e) (two_left from to k shown after i0 i1 i2 c b a es e0 ec n em e1 (eb (lt-ltb 1 n (omega arith))) e))
+    (λ (y : n ≡ 2 → ⊥).
+    let e : n ≡ 3 = omega arith in
+    rw (f, ev, e)
+    (three_left from to k shown after i0 i1 i2 c b a es e0 ec n em e1 (eb (lt-ltb 1 n (omega arith))) e2 (ea (lt-ltb 2 n (omega arith))) e))
+    (eq_or_ne n 2))
+    (eq_or_ne n 1)
+
+-- as the code does it, which has the second and the third as Options
+pub options_left :
     (from to : Triple) (k : Chip) (shown : Shown) (after : List Bool) (i0 i1 i2 c : ℕ) (b a : Option ℕ) (n : ℕ) → 1 ≤ n → n ≤ 3 → shown ≡ shown_of k.processor →
     i0 ≡ place_at (block_at to 0) → i1 ≡ place_at (block_at to 1) → i2 ≡ place_at (block_at to 2) → c ≡ loaded (block_at from 0) k.memory →
     b ≡ pick (ltb n 2) None (Some (loaded (block_at from 1) (set k.memory i0 c))) →
     a ≡ pick (ltb n 3) None (Some (loaded (block_at from 2) (set (set k.memory i0 c) i1 (unwrap_or b 0)))) →
     after ≡ stores_marks shown k.memory (take n (code_stores to c (unwrap_or b 0) (unwrap_or a 0))) k.processor.marks →
     chip (with_marks (with_register k.processor 1 (unwrap_or (option_or a b) c)) after) (stored_if i2 a (stored_if i1 b (set k.memory i0 c))) ≡ carried_all n from to k
-all_left from to k shown after i0 i1 i2 c b a n l h es e0 e1 e2 ec eb ea em =
+options_left from to k shown after i0 i1 i2 c b a n l h es e0 e1 e2 ec eb ea em =
     ⊎_elim
     (λ (e : n ≡ 1).
     let nb : b ≡ None = eb ∙ rw e refl in

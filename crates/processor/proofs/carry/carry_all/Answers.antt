@@ -1,6 +1,6 @@
 use mathlib.Core.Path.{refl, ap, ◌∙◌}
 use Rattle.processor.specs.States.{chip}
-use Rattle.processor.proofs.Carrying.{all_left, asked_some, length_stored}
+use Rattle.processor.proofs.Carrying.{options_left, asked_some, length_stored}
 use native.Mathlib.Omega.{arith}
 use lib.ListN.{length-set}
 use borrow.Author.Tests.{le-ltb}
@@ -33,7 +33,7 @@ bounds-memory-first c = rw c.requires.0 (place_fits_in _ _ _ c.place-first.ensur
 
 pub returns : goal.returns
 returns c = rw (c.store_if-2.ensures, c.store_if.ensures, c.unwrap_or-3.ensures, c.or.ensures)
-    (all_left c.args.from c.args.to (chip c.args.p c.args.memory.now) _ _ _ _ _ _ _ _ c.args.bytes c.requires.1 c.requires.2 c.shown.ensures
+    (options_left c.args.from c.args.to (chip c.args.p c.args.memory.now) _ _ _ _ _ _ _ _ c.args.bytes c.requires.1 c.requires.2 c.shown.ensures
     (c.place-first.ensures ∙ rw c.block_at.ensures refl) (c.place-second.ensures ∙ rw c.block_at-2.ensures refl) (c.place-third.ensures ∙ rw c.block_at-3.ensures refl)
     (c.load-c.ensures ∙ rw c.block_at-4.ensures refl) (c.second_byte-b.ensures ∙ rw c.block_at-5.ensures refl) (c.third_byte-a.ensures ∙ rw c.block_at-6.ensures refl)
     (c.span_marks-after.ensures ∙ rw (c.unwrap_or.ensures, c.unwrap_or-2.ensures) refl))
