@@ -39,9 +39,8 @@ fn four(by: u8, steps: [u8; 4]) -> [u8; 4]
 }
 
 // The packed bytes of the cells from `first` up to `end`, put in their places of a line that has those of the cells before them.
-// Each byte is stored by its index. A full redraw of text takes 63 percent more instructions where the cells are
-// arrays made by `from_fn`, and
-// three times as many where each is copied by `copy_from_slice`: the compiler then makes no vectors of the loop.
+// Each byte is stored by its index. Where the cells are arrays made by `from_fn` a full redraw of text takes some 60 percent
+// more instructions, and where each is copied by `copy_from_slice` three times as many: the compiler then makes no vectors.
 fn pack(line: &mut [u8; 160], bytes: [u8; 40], pairs: &[u8; 160], first: usize, end: usize)
     requires { (first ≤ end) × (end ≤ 40) × (take (forty_bytes * first) line.old ≡ joined (four_of bytes pairs.now) first) }
     ensures { line.new ≡ joined (four_of bytes pairs.now) end ++ drop (forty_bytes * end) line.old }

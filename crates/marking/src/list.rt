@@ -58,7 +58,7 @@ fn own_marks(
     }
 }
 
-// The rows with a Y and the next that the keys fit.
+// The rows with a Y and the next that the keys fit. (A loop over the Ys, of which each row's number is worked out.)
 fn group_marks(marks: &mut [bool; 25], memory: &[u8], z: u8, yor: u8, first: u8, keys: Keys)
     requires { Has memory.now z 0 × Has memory.now z 1 × (8 ≤ first) × (first < 31) × (keys_high keys ≡ true) }
     ensures { marks.new ≡ marked_too (λ r. in_group first (first + 2) (row_y yor r) && keyed_at keys memory.now z (row_y yor r)) marks.old }

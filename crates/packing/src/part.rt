@@ -13,7 +13,7 @@ fn is_on(byte: u8) -> bool
     byte != 0
 }
 
-// The byte of a bit or a mark.
+// The byte of a bit or a mark. (A function of its own, so that what an edit makes of it contradicts a fact.)
 pub fn flag(is_set: bool) -> u8
     ensures { result ≡ one_if is_set }
 {

@@ -12,8 +12,7 @@ use page::stretch::some_below;
 use shown::page::Page;
 
 // A column by its C, B and A: in 80 columns one of its two cells flashes, in 40 its one. (The tests stand in
-// `asking::row`
-// too, for its own questions of bytes in memory; each is two comparisons, and an edit turns each where it stands.)
+// `asking::row` too, for its questions of bytes in memory; each is two comparisons, and an edit turns it where it stands.)
 fn column_flashes(part: Part, eighty: bool, c: u8, b: u8, a: u8) -> bool
     ensures { result ≡ flashes_in part eighty (c ∷ b ∷ a ∷ []) }
 {

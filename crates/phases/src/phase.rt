@@ -26,7 +26,7 @@ fn are_quiet(memory: &[u8], z: u8, y: u8, before: bool) -> bool
     asked && !near_blinks(memory, z, y)
 }
 
-// The rows that flash, of an EF9345: the service row, and then four at a time.
+// The rows that flash, of an EF9345: the service row, and then four at a time, counted by g.
 fn flash_in(marks: &mut [bool; 25], memory: &[u8], z: u8, yor: u8)
     requires { Has memory.now z 1 × Has memory.now z 2 }
     ensures { marks.new ≡ marked_too (λ r. flash_at Ef9345 memory.now z (row_y yor r)) marks.old }

@@ -5,6 +5,7 @@ ghost use Rattle.command.specs.Commands.{Asked, command_for};
 ghost use Rattle.processor.specs.States.{chip, register_of};
 ghost use Rattle.processor.specs.Access.{outcome, outcome_of, is_astray, is_unfitted, ran, executed};
 
+use crate::both::{are_bare, are_legal};
 use crate::byte::{krf, oct};
 use crate::pointer::pointer;
 use crate::position::krl;
@@ -13,7 +14,6 @@ use address::fitted::{is_code_fitted, is_narrow_fitted};
 use address::triple::is_legal;
 use command::answer::{Answer, Refusal};
 use command::{Command, command_for};
-use moves::span::is_bare;
 
 // The state after an access, with the answer.
 #[derive(Clone, Copy)]
@@ -43,7 +43,7 @@ fn is_astray(command: Command, p: Processor) -> bool
         Command::Krf(..) => !is_legal(pointer(p, false)),
         Command::Oct(_, auxiliary, _) => !is_legal(pointer(p, auxiliary)),
         Command::Krl(..) => !is_legal(pointer(p, false)),
-        Command::Move(..) => !is_legal(pointer(p, false)) || !is_legal(pointer(p, true)),
+        Command::Move(..) => !are_legal(p),
     }
 }
 
@@ -57,10 +57,7 @@ fn is_unfitted(command: Command, p: Processor) -> bool
         Command::Krf(..) => !is_code_fitted(p.blocks, pointer(p, false)),
         Command::Oct(_, auxiliary, _) => p.blocks <= pointer(p, auxiliary).z,
         Command::Krl(..) => !is_narrow_fitted(p.blocks, pointer(p, false)),
-        Command::Move(bytes, _, _) => {
-            is_bare(p.blocks, pointer(p, false), bytes)
-                || is_bare(p.blocks, pointer(p, true), bytes)
-        }
+        Command::Move(bytes, _, _) => are_bare(p, bytes),
     }
 }
 

@@ -6,6 +6,7 @@
 #![tactic(auto)]
 
 pub mod access;
+mod both;
 pub mod byte;
 pub mod carry;
 pub mod draw;

@@ -37,6 +37,7 @@ pub fn increment(mut p: Processor, auxiliary: bool) -> Processor
     p
 }
 
+// (`asked` is a bit of the command, and no value hangs on it.)
 #[tactic(auto, unfolding(crate::specs::Pointers::incremented_if))]
 pub fn increment_if(p: Processor, asked: bool, auxiliary: bool) -> Processor
     requires { (pointer_of auxiliary p).x < 40 }

@@ -1,26 +1,22 @@
 // A step of a move.
-ghost use Rattle.std.specs.Prelude.{◌≡◌, true, false, ◌&&◌, ◌||◌, length, ◌≤◌, Some};
-ghost use Rattle.basics.specs.Below.{any_below};
+ghost use Rattle.std.specs.Prelude.{◌≡◌, true, false, length, ◌≤◌, Some};
 ghost use Rattle.board.specs.Boards.{bytes_of};
-ghost use Rattle.address.specs.Triples.{legal};
 ghost use Rattle.command.specs.declared.Command.TheVariants.{Move};
 ghost use Rattle.moves.specs.Onward.{BothOnPage};
-ghost use Rattle.moves.specs.Spans.{is_bare_in};
 ghost use Rattle.processor.specs.States.{chip};
 ghost use Rattle.processor.specs.Pointers.{pointer_of};
 ghost use Rattle.processor.specs.Access.{outcome_of, is_astray, is_unfitted};
 ghost use Rattle.processor.specs.Moves.{passed_on, moved, step_of, stepped};
 
+use crate::both::{are_bare, are_legal};
 use crate::carry::carry_all;
 use crate::execute::Answered;
 use crate::pointer::pointer;
 use crate::state::Processor;
-use address::triple::is_legal;
 use board::bytes_of;
 use command::answer::Refusal;
 use command::{Command, command_for};
 use moves::onward::{is_end, onward};
-use moves::span::is_bare;
 
 // The pointers go on, and a move with a stop may end.
 #[tactic(auto, unfolding(crate::specs::Moves::passed_on))]
@@ -44,20 +40,6 @@ fn position(p: Processor, memory: &mut [u8], bytes: u8, auxiliary: bool, stops: 
     let to = pointer(p, !auxiliary);
     let next = carry_all(p, memory, from, to, bytes);
     passed_on(next, stops)
-}
-
-// Both pointers are legal.
-fn are_legal(p: Processor) -> bool
-    ensures { result ≡ (legal (pointer_of false p) && legal (pointer_of true p)) }
-{
-    is_legal(pointer(p, false)) && is_legal(pointer(p, true))
-}
-
-// A byte of either is not fitted.
-fn are_bare(p: Processor, bytes: u8) -> bool
-    ensures { result ≡ (any_below (is_bare_in p.blocks (pointer_of false p)) bytes || any_below (is_bare_in p.blocks (pointer_of true p)) bytes) }
-{
-    is_bare(p.blocks, pointer(p, false), bytes) || is_bare(p.blocks, pointer(p, true), bytes)
 }
 
 // A move whose pointers are not legal and fitted, which none that started has, ends.

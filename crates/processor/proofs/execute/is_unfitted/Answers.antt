@@ -17,26 +17,6 @@ pub returns-in-Krl : goal.returns-in-Krl
 returns-in-Krl c = let legal = not-false _ (sym (narrow_illegal _ _) ∙ rw c.in-Krl.is at c.requires.1) in
     rw (c.in-Krl.is, c.is_narrow_fitted.ensures, c.pointer-in-Krl.ensures) (sym (narrow_bare _ _ legal))
 
-pub returns-then-is_bare : goal.returns-then-is_bare
-returns-then-is_bare c = let bytes = (rw c.in-Move.is at c.requires.0).0 in
-    rw (
-      c.in-Move.is,
-      both_bare _ c.in-Move.field-1 c.in-Move.field-2 c.args.p bytes (rw c.in-Move.is at c.requires.1),
-      ← c.pointer-in-Move.ensures,
-      ← c.is_bare.ensures,
-      c.if-is_bare.true,
-    )
-    refl
-
-pub returns-else-is_bare : goal.returns-else-is_bare
-returns-else-is_bare c = let bytes = (rw c.in-Move.is at c.requires.0).0 in
-    rw (
-      c.in-Move.is,
-      both_bare _ c.in-Move.field-1 c.in-Move.field-2 c.args.p bytes (rw c.in-Move.is at c.requires.1),
-      ← c.pointer-in-Move.ensures,
-      ← c.is_bare.ensures,
-      c.if-is_bare.false,
-      ← c.pointer-else-is_bare.ensures,
-      ← c.is_bare-else-is_bare.ensures,
-    )
-    refl
+pub returns-in-Move : goal.returns-in-Move
+returns-in-Move c = let bytes = (rw c.in-Move.is at c.requires.0).0 in
+    rw (c.in-Move.is, both_bare _ c.in-Move.field-1 c.in-Move.field-2 c.args.p bytes (rw c.in-Move.is at c.requires.1)) c.are_bare.ensures
