@@ -25,7 +25,9 @@ pub enum Command {
     Move(u8, bool, bool),
 }
 
-// None where the byte is not listed.
+// None where the byte is not listed. Always compiled into its callers, as `command_for` is: as a call each command is
+// handed over through memory, and what runs is looked up a second time.
+#[inline(always)]
 #[tactic(auto, unfolding(crate::specs::Commands::command_of))]
 pub fn command_of(byte: u8) -> Option<Command>
     ensures named { result ≡ command_of byte }
@@ -56,6 +58,7 @@ pub fn command_of(byte: u8) -> Option<Command>
 }
 
 // A TS9347 runs no KRL and no move.
+#[inline(always)]
 #[tactic(auto, unfolding(crate::specs::Commands::command_for))]
 pub fn command_for(part: Part, byte: u8) -> Option<Command>
     ensures named { result ≡ command_for part byte }

@@ -34,13 +34,14 @@ fn asked_marks(marks: &mut [bool; 25], page: &Page, x: u8, y: u8, blocks: [u8; 3
     }
 }
 
-// The marks after bytes at X and Y have changed in the blocks, in place: copying them in and out would cost more than most questions.
-pub fn change_marks(marks: &mut [bool; 25], page: &Page, x: u8, y: u8, blocks: [u8; 3])
-    requires { (on_page x y ≡ true) × AllFitted page.now.shown.blocks blocks }
-    ensures { marks.new ≡ change_marks page.now.shown page.now.memory.now x y blocks marks.old }
+// The marks after bytes at X and Y have changed in the blocks, in place: copying them in and out would cost more than most
+// questions. The page comes by value, so that a store that changes nothing, or nothing that is shown, builds none in memory.
+pub fn change_marks(marks: &mut [bool; 25], page: Page, x: u8, y: u8, blocks: [u8; 3])
+    requires { (on_page x y ≡ true) × AllFitted page.shown.blocks blocks }
+    ensures { marks.new ≡ change_marks page.entry.shown page.entry.memory.now x y blocks marks.old }
 {
     if page.shown.can_draw() {
-        asked_marks(marks, page, x, y, blocks);
+        asked_marks(marks, &page, x, y, blocks);
     }
 }
 
@@ -52,7 +53,7 @@ pub fn marks_after(mut marks: [bool; 25], page: &Page, x: u8, y: u8, blocks: [u8
     ensures { result ≡ change_marks page.now.shown page.now.memory.now x y blocks marks }
 {
     if some_changed(blocks) {
-        change_marks(&mut marks, page, x, y, blocks);
+        change_marks(&mut marks, *page, x, y, blocks);
     }
     marks
 }

@@ -45,10 +45,10 @@ impl Processor {
         ensures { outcome_of result memory.new ≡ written address value (chip self memory.old) }
     {
         let held = is_write_held(self.busy, address, value);
-        match self.admits(memory.len(), address, held) {
-            Ok(()) => execute(self.with_register(address, value), memory, address, 0),
-            Err(refusal) => self.answering(Err(refusal)),
+        if let Err(refusal) = self.admits(memory.len(), address, held) {
+            return self.answering(Err(refusal));
         }
+        execute(self.with_register(address, value), memory, address, 0)
     }
 
     // A register is read; then the command runs, if the address asks for it, and may store. While a move runs, only the status is read.
@@ -57,13 +57,11 @@ impl Processor {
         ensures { outcome_of result memory.new ≡ read_out address (chip self memory.old) }
     {
         let held = is_read_held(self.busy, address);
-        match self.admits(memory.len(), address, held) {
-            Ok(()) => {
-                let value = self.register(address);
-                execute(self, memory, address, value)
-            }
-            Err(refusal) => self.answering(Err(refusal)),
+        if let Err(refusal) = self.admits(memory.len(), address, held) {
+            return self.answering(Err(refusal));
         }
+        let value = self.register(address);
+        execute(self, memory, address, value)
     }
 
     // The phase change.

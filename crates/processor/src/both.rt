@@ -17,7 +17,8 @@ pub fn are_legal(p: Processor) -> bool
     is_legal(pointer(p, false)) && is_legal(pointer(p, true))
 }
 
-// A byte of either is not fitted.
+// A byte of either is not fitted. Always compiled into its callers: each step asks it.
+#[inline(always)]
 pub fn are_bare(p: Processor, bytes: u8) -> bool
     ensures { result ≡ (any_below (is_bare_in p.blocks (pointer_of false p)) bytes || any_below (is_bare_in p.blocks (pointer_of true p)) bytes) }
 {

@@ -80,21 +80,20 @@ fn effect(p: Processor, memory: &mut [u8], command: Command) -> Processor
     }
 }
 
-// The command in R0, unless 3, 4 or 11 refuses it, in this order; a refusal has the value that the access gave.
+// 4 and 11, in this order, of a command that is listed; a refusal has the value that the access gave.
 #[tactic(auto, unfolding(crate::specs::Access::ran))]
-fn judged(p: Processor, value: u8) -> Result<Command, Refusal>
-    ensures ok { IfOk result (λ c. (command_for p.part (register_of p 0) ≡ Some c) × Asked c
-        × (is_astray (Some c) p ≡ false) × (is_unfitted (Some c) p ≡ false)) }
-    ensures err { IfErr result (λ r. (m : List ℕ) → outcome (chip p m) (Err r) ≡ ran (command_for p.part (register_of p 0)) value (chip p m)) }
+fn judged(command: Command, p: Processor, value: u8) -> Result<(), Refusal>
+    requires { Asked command }
+    ensures ok { IfOk result (λ done. (is_astray (Some command) p ≡ false) × (is_unfitted (Some command) p ≡ false)) }
+    ensures err { IfErr result (λ r. (m : List ℕ) → outcome (chip p m) (Err r) ≡ ran (Some command) value (chip p m)) }
 {
-    let command = command_for(p.part, p.registers[0]).ok_or(Refusal::NotListed(value))?;
     if is_astray(command, p) {
         return Err(Refusal::BadPointer(value));
     }
     if is_unfitted(command, p) {
         return Err(Refusal::NotFitted(value));
     }
-    Ok(command)
+    Ok(())
 }
 
 // The command, if bit 3 of the address asks for it. What is refused is handed back as it was.
@@ -106,8 +105,11 @@ pub fn execute(p: Processor, memory: &mut [u8], address: u8, value: u8) -> Answe
     if address / 8 % 2 == 0 {
         return p.answering(Ok(value));
     }
-    match judged(p, value) {
-        Ok(command) => effect(p, memory, command).answering(Ok(value)),
-        Err(refusal) => p.answering(Err(refusal)),
+    let Some(command) = command_for(p.part, p.registers[0]) else {
+        return p.answering(Err(Refusal::NotListed(value)));
+    };
+    if let Err(refusal) = judged(command, p, value) {
+        return p.answering(Err(refusal));
     }
+    effect(p, memory, command).answering(Ok(value))
 }

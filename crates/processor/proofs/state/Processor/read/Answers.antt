@@ -3,6 +3,6 @@ use Rattle.processor.specs.States.{chip}
 use Rattle.processor.proofs.Ways.{read_done}
 use Rattle.processor.proofs.state.Processor.read.Goals as goal
 
-pub returns-in-Ok : goal.returns-in-Ok
-returns-in-Ok c = let a = c.args in
-    c.execute.ensures ∙ read_done a.address (chip a.self a.memory.now) _ _ c.is_read_held-held.ensures (sym c.admits.ensures ∙ c.in-Ok.is) c.register-value.ensures
+pub returns : goal.returns
+returns c = let a = c.args in
+    c.execute.ensures ∙ read_done a.address (chip a.self a.memory.now) _ _ c.is_read_held-held.ensures (sym c.admits.ensures ∙ c.in_default.is) c.register-value.ensures
