@@ -77,16 +77,20 @@ module _ (m rom : List ℕ) (shown : Shown) (code : List ℕ) (plain : is_plain 
       slices m-small rom-small long single_wide
       ∙ ap (λ (z : Cell). ten_of m rom shown z lower right) (cell_bichrome shown.part (get_or code 0 0) b (get_or code 2 0) (omega (arith, below)) (below_last shown.part b (omega (arith, below))))
 
+  abbrev Starts : ℕ → Type 0
+  Starts first = first ≡ set_number shown.part (b / 16 % 8) * 1280 + get_or code 0 0 % 128 * 10
+
   -- and they stand side by side
+  pub side_by_side : (first : ℕ) → Starts first → length rom ≡ rom_bytes shown.part → take 10 (drop first rom) ≡ table (rom_slice rom (get_or code 0 0) set) 10
+  unfolding rom_slice
+  side_by_side first e h =
+      table_copied (rom_slice rom (get_or code 0 0) set) rom _ first 10 10 0 refl refl (omega (arith, e, set_whole h))
+      (λ n l. let same : first + n ≡ 1280 * set + 10 * (get_or code 0 0 % 128) + n = omega (arith, e) in ap (λ (i : ℕ). get_or rom i 0) same)
+
   pub plain_ten :
       (lower right : Bool) (first : ℕ) → first ≡ set_number shown.part (b / 16 % 8) * 1280 + get_or code 0 0 % 128 * 10 → length rom ≡ rom_bytes shown.part
       → ((i : ℕ) → get_or m i 0 < 256) → ((i : ℕ) → get_or rom i 0 < 256) → take 10 (drop first rom) ≡ ten_of m rom shown (decoded shown.part code) lower right
-  unfolding rom_slice
-  plain_ten lower right first e h m-small rom-small =
-      plain_slices lower right _
-      (table_copied (rom_slice rom (get_or code 0 0) set) rom _ first 10 10 0 refl refl (omega (arith, e, set_whole h))
-      (λ n l. let same : first + n ≡ 1280 * set + 10 * (get_or code 0 0 % 128) + n = omega (arith, e) in ap (λ (i : ℕ). get_or rom i 0) same))
-      m-small rom-small
+  plain_ten lower right first e h m-small rom-small = plain_slices lower right _ (side_by_side first e h) m-small rom-small
 
 pub ten_long : (m rom : List ℕ) (shown : Shown) (cell : Cell) (lower right : Bool) → length (ten_of m rom shown cell lower right) ≡ 10
 unfolding ten_of

@@ -9,7 +9,7 @@ use native.Mathlib.Omega.{arith}
 use lib.Dec.{ltb}
 use lib.ListN.{length, set, length-set, take}
 use lib.Seq.{get_or-set_same, get_or-set_other, set-set}
-use borrow.Author.Tests.{not-false, lt-ltb}
+use borrow.Author.Tests.{not-false, lt-ltb, le-ltb, ltb-true}
 use Rattle.basics.specs.Below.{any_below}
 use Rattle.basics.proofs.Choice.{or_none, or_neither, eq_or_ne, lt_or_le}
 use Rattle.address.specs.Addresses.{is_illegal, is_not_fitted, some_address}
@@ -88,7 +88,29 @@ all_left from to k shown after i0 i1 i2 c b a n l h es e0 e1 e2 ec eb ea em v m 
     (eq_or_ne n 2))
     (eq_or_ne n 1)
 
--- as the code does it, which has the second and the third as Options
+-- the code has the second and the third as Options: what it stores, and what R1 holds at the end
+module _ (n c u w : ℕ) (b a : Option ℕ) (l : 1 ≤ n) (h : n ≤ 3) (eb : b ≡ pick (ltb n 2) None (Some u)) (ea : a ≡ pick (ltb n 3) None (Some w)) where
+  last_taken : unwrap_or (option_or a b) c ≡ last_of n c (unwrap_or b 0) (unwrap_or a 0)
+  unfolding last_of
+  last_taken =
+      ⊎_elim (λ (e : n ≡ 1). rw (eb, ea, e) refl)
+      (λ (x : n ≡ 1 → ⊥). ⊎_elim (λ (e : n ≡ 2). rw (eb, ea, e) refl) (λ (y : n ≡ 2 → ⊥). let e : n ≡ 3 = omega arith in rw (eb, ea, e) refl) (eq_or_ne n 2))
+      (eq_or_ne n 1)
+
+  all_stored :
+      (i0 i1 i2 : ℕ) (m : List ℕ) → stored_if i2 a (stored_if i1 b (set m i0 c)) ≡ stored_all n i0 c i1 (unwrap_or b 0) i2 (unwrap_or a 0) m
+  unfolding stored_all
+  all_stored i0 i1 i2 m =
+      ⊎_elim (λ (e : n ≡ 1). rw (eb, ea, e) refl)
+      (λ (x : n ≡ 1 → ⊥). ⊎_elim (λ (e : n ≡ 2). rw (eb, ea, e) refl) (λ (y : n ≡ 2 → ⊥). let e : n ≡ 3 = omega arith in rw (eb, ea, e) refl) (eq_or_ne n 2))
+      (eq_or_ne n 1)
+
+  second_taken : ltb 1 n ≡ true → unwrap_or b 0 ≡ u
+  second_taken t = rw (eb, le-ltb n 2 (omega (arith, ltb-true 1 n t))) refl
+
+  third_taken : ltb 2 n ≡ true → unwrap_or a 0 ≡ w
+  third_taken t = rw (ea, le-ltb n 3 (omega (arith, ltb-true 2 n t))) refl
+
 pub options_left :
     (from to : Triple) (k : Chip) (shown : Shown) (after : List Bool) (i0 i1 i2 c : ℕ) (b a : Option ℕ) (n : ℕ) → 1 ≤ n → n ≤ 3 → shown ≡ shown_of k.processor →
     i0 ≡ place_at (block_at to 0) → i1 ≡ place_at (block_at to 1) → i2 ≡ place_at (block_at to 2) → c ≡ loaded (block_at from 0) k.memory →
@@ -97,27 +119,8 @@ pub options_left :
     after ≡ stores_marks shown k.memory (take n (code_stores to c (unwrap_or b 0) (unwrap_or a 0))) k.processor.marks →
     chip (with_marks (with_register k.processor 1 (unwrap_or (option_or a b) c)) after) (stored_if i2 a (stored_if i1 b (set k.memory i0 c))) ≡ carried_all n from to k
 options_left from to k shown after i0 i1 i2 c b a n l h es e0 e1 e2 ec eb ea em =
-    ⊎_elim
-    (λ (e : n ≡ 1).
-    let nb : b ≡ None = eb ∙ rw e refl in
-    let na : a ≡ None = ea ∙ rw e refl in
-    rw (nb, na, e) (one_left from to k shown after i0 i1 i2 c 0 0 es e0 ec n (rw (nb, na) at em) e))
-    (λ (x : n ≡ 1 → ⊥).
-    ⊎_elim
-    (λ (e : n ≡ 2).
-    let v = loaded (block_at from 1) (set k.memory i0 c) in
-    let nb : b ≡ Some v = eb ∙ rw e refl in
-    let na : a ≡ None = ea ∙ rw e refl in
-    rw (nb, na, e) (two_left from to k shown after i0 i1 i2 c v 0 es e0 ec n (rw (nb, na) at em) e1 refl e))
-    (λ (y : n ≡ 2 → ⊥).
-    let e : n ≡ 3 = omega arith in
-    let v = loaded (block_at from 1) (set k.memory i0 c) in
-    let nb : b ≡ Some v = eb ∙ rw e refl in
-    let u = loaded (block_at from 2) (set (set k.memory i0 c) i1 v) in
-    let na : a ≡ Some u = ea ∙ rw (e, nb) refl in
-    rw (nb, na, e) (three_left from to k shown after i0 i1 i2 c v u es e0 ec n (rw (nb, na) at em) e1 refl e2 refl e))
-    (eq_or_ne n 2))
-    (eq_or_ne n 1)
+    all_left from to k shown after i0 i1 i2 c _ _ n l h es e0 e1 e2 ec (second_taken n c _ _ b a l h eb ea) (third_taken n c _ _ b a l h eb ea) em _ _
+    (last_taken n c _ _ b a l h eb ea) (all_stored n c _ _ b a l h eb ea i0 i1 i2 k.memory)
 
 -- a store leaves the length
 pub length_stored : (place : ℕ) (o : Option ℕ) (m : List ℕ) → length (stored_if place o m) ≡ length m

@@ -1,8 +1,8 @@
 use native.Mathlib.Omega.{arith}
 use Rattle.page.specs.Inputs.{decoded}
-use Rattle.columns.proofs.PlainCells.{set_whole, plain_slices}
+use Rattle.columns.proofs.PlainCells.{set_whole, side_by_side, plain_ten}
 use Rattle.columns.proofs.Tens.{ten_wide, ten_whole, wide_code}
-use mathlib.Core.Path.{sym, ◌∙◌}
+use mathlib.Core.Path.{refl, sym, ◌∙◌}
 use borrow.Author.Rules.{rules}
 use Rattle.columns.proofs.ten.ten_of.Goals as goal
 
@@ -12,8 +12,10 @@ rom_slices-requires c = let s = c.args.scene.now in
 
 pub returns-then-is_plain : goal.returns-then-is_plain
 returns-then-is_plain c = let s = c.args.scene.now in
-    plain_slices s.page.memory.now s.rom.now s.page.shown c.args.code (sym c.is_plain.ensures ∙ c.if-is_plain.true) c.args.lower c.args.right _
-    (rw (← c.rom_set.ensures) c.rom_slices.ensures) s.page.memory_of_bytes s.rom_of_bytes
+    let plain = sym c.is_plain.ensures ∙ c.if-is_plain.true in
+    rw (← c.rom_set.ensures) c.rom_slices.ensures
+    ∙ sym (side_by_side s.page.memory.now s.rom.now s.page.shown c.args.code plain _ refl s.rom_whole)
+    ∙ plain_ten s.page.memory.now s.rom.now s.page.shown c.args.code plain c.args.lower c.args.right _ refl s.rom_whole s.page.memory_of_bytes s.rom_of_bytes
 
 pub returns-then-is_wide : goal.returns-then-is_wide
 returns-then-is_wide c = let s = c.args.scene.now in

@@ -1,6 +1,6 @@
 use Rattle.processor.proofs.Carrying.{both_bare}
 use borrow.Author.Tests.{not-false}
-use mathlib.Core.Path.{refl, sym, ◌∙◌}
+use mathlib.Core.Path.{sym, ◌∙◌}
 use Rattle.moves.proofs.Spans.{le_not_lt}
 use Rattle.address.proofs.Fits.{byte_illegal, code_illegal, narrow_illegal, byte_bare, code_bare, narrow_bare}
 use Rattle.processor.proofs.execute.is_unfitted.Goals as goal
