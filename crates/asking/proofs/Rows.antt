@@ -46,6 +46,20 @@ pub code_in_lem : (m : List ℕ) (z y x : ℕ) → code_in m z (place_of x y 0) 
 unfolding code_in code_of
 code_in_lem m z y x = rw (place_in x y (block_of z 0), place_in x y (block_of z 1), place_in x y (block_of z 2))
 
+-- the service row is one stretch
+pub service_fits : place_of 0 0 0 + 40 ≤ 1024
+service_fits = omega (arith, place_left 0 0 0 (omega arith))
+
+pub service_code : (m : List ℕ) (z i : ℕ) → i < 40 → code_in m z (place_of 0 0 0 + i) ≡ code_of m z 0 i
+service_code m z i l = ap (code_in m z) same ∙ code_in_lem m z 0 i
+  where
+    same : place_of 0 0 0 + i ≡ place_of i 0 0
+    same =
+        ⊎_elim
+        (λ q. omega (arith, place_left 0 0 0 (omega arith), place_left i 0 0 q))
+        (λ q. omega (arith, place_left 0 0 0 (omega arith), place_service i 0 0 q refl))
+        (lt_or_le i 32)
+
 -- its three bytes, from where their blocks start
 module _ (m : List ℕ) (z at start : ℕ) where
   pub in_c : start ≡ 1024 * block_of z 0 → get_or m (start + at) 0 ≡ get_or (code_in m z at) 0 0
@@ -138,6 +152,14 @@ three_parts f first second third p q r =
     (ap₂ ◌||◌ (p ∙ any_same _ _ 16 (λ i l. ap f (omega arith))) q ∙ sym (any_split f 16 16) ∙ any_same f (λ i. f (0 + i)) 32 (λ i l. ap f (omega arith)))
     r
 
+-- n rows that follow on have their two stretches in a block
+module _ (y n : ℕ) (high : y + n ≤ 32) where
+  pub lefts_fit : place_of 0 y 0 + 32 * n ≤ 1024
+  lefts_fit = omega (arith, place_left 0 y 0 (omega arith))
+
+  pub rights_fit : 8 ≤ y → place_of 32 y 0 + 8 * n ≤ 1024
+  rights_fit low = omega (arith, place_right 32 y 0 (omega arith) (λ e. omega arith))
+
 -- the places of a row's cells
 module _ (y : ℕ) where
   left_place : (i : ℕ) → i < 32 → place_of 0 y 0 + i ≡ place_of i y 0
@@ -159,7 +181,7 @@ module _ (y : ℕ) where
 
   -- all in their block
   pub left_low : (n i : ℕ) → y + n ≤ 32 → i < 32 * n → place_of 0 y 0 + i < 1024
-  left_low n i h l = omega (arith, place_left 0 y 0 (omega arith))
+  left_low n i h l = omega (arith, l, lefts_fit y n h)
 
   pub right_low : (i : ℕ) → y < 32 → i < 8 → place_of 32 y 0 + i < 1024
   right_low i h l =
@@ -169,7 +191,7 @@ module _ (y : ℕ) where
       (eq_or_ne y 0)
 
   pub rights_low : (n i : ℕ) → 8 ≤ y → y + n ≤ 32 → i < 8 * n → place_of 32 y 0 + i < 1024
-  rights_low n i low h l = omega (arith, place_right 32 y 0 (omega arith) (λ e. omega arith))
+  rights_low n i low h l = omega (arith, l, rights_fit y n h low)
 
   -- what is asked in parts is asked of the cells
   module _ (test : ℕ → Bool) where
@@ -213,6 +235,13 @@ module _ (y : ℕ) where
     pub several_rows :
         (n : ℕ) (left right : Bool) → 8 ≤ y → left ≡ any_below lefts (32 * n) → right ≡ any_below rights (8 * n) → (left || right) ≡ any_below passes n
     several_rows n left right h p q = ap₂ ◌||◌ p q ∙ stretches_pass n h
+
+-- of the cells
+pub several_cells :
+    (g : List ℕ → Bool) (m : List ℕ) (z y n : ℕ) (left right : Bool) → 8 ≤ y
+    → left ≡ any_below (λ i. g (code_in m z (place_of 0 y 0 + i))) (32 * n) → right ≡ any_below (λ i. g (code_in m z (place_of 32 y 0 + i))) (8 * n)
+    → (left || right) ≡ any_below (λ k. any_below (λ x. g (code_of m z (y + k) x)) 40) n
+several_cells g m z y n left right h p q = several_rows y (λ at. g (code_in m z at)) n left right h p q ∙ rows_asked g m z y n
 
 -- where nothing blinks nothing flashes
 pub none_flashes :

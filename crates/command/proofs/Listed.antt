@@ -35,5 +35,14 @@ lists_oct Ts9347 reads auxiliary increments = refl
 pub unlisted_krl : (reads increments : Bool) → listed_for Ts9347 (Krl reads increments) ≡ None
 unlisted_krl reads increments = refl
 
-pub unlisted_move : (bytes : ℕ) (auxiliary stops : Bool) → listed_for Ts9347 (Move bytes auxiliary stops) ≡ None
-unlisted_move bytes auxiliary stops = refl
+pub unlisted_moves : (bytes : ℕ) (auxiliary stops : Bool) → listed_for Ts9347 (Move bytes auxiliary stops) ≡ None
+unlisted_moves bytes auxiliary stops = refl
+
+-- and a byte that names one names no command of it
+pub unlisted : (b : ℕ) (reads increments : Bool) → command_of b ≡ Some (Krl reads increments) → command_for Ts9347 b ≡ None
+unfolding command_for
+unlisted b reads increments e = rw e (unlisted_krl reads increments)
+
+pub unlisted_move : (b bytes : ℕ) (auxiliary stops : Bool) → command_of b ≡ Some (Move bytes auxiliary stops) → command_for Ts9347 b ≡ None
+unfolding command_for
+unlisted_move b bytes auxiliary stops e = rw e (unlisted_moves bytes auxiliary stops)
