@@ -3,7 +3,7 @@ ghost use Rattle.std.specs.Prelude.{◌≡◌, ◌&&◌, eqb, Ok, Err};
 ghost use Rattle.basics.specs.Bits.{bits};
 ghost use Rattle.basics.specs.Choice.{pick};
 ghost use Rattle.board.specs.Boards.{bytes_of};
-ghost use Rattle.command.specs.declared.answer.Refusal.TheVariants.{WrongMemory, WrongAddress, Busy};
+ghost use Rattle.command.specs.declared.answer.Refusal.TheVariants.{WrongMemory, WrongAddress};
 ghost use Rattle.processor.specs.States.{chip};
 ghost use Rattle.processor.specs.Access.{outcome_of, written, read_out, turned};
 
@@ -23,18 +23,15 @@ fn is_chosen(address: u8) -> bool
 }
 
 impl Processor {
-    // 1, 2 and 10, in this order, before an access takes place; held where a move runs and 10 refuses it.
-    fn admits(self, memory: usize, address: u8, held: bool) -> Result<(), Refusal>
-        ensures { result ≡ pick (eqb memory (bytes_of self.blocks)) (pick (eqb (bits 4 4 address) 2) (pick held (Err Busy) (Ok tt)) (Err WrongAddress)) (Err WrongMemory) }
+    // 1 and 2, in this order, before an access takes place.
+    fn admits(self, memory: usize, address: u8) -> Result<(), Refusal>
+        ensures { result ≡ pick (eqb memory (bytes_of self.blocks)) (pick (eqb (bits 4 4 address) 2) (Ok tt) (Err WrongAddress)) (Err WrongMemory) }
     {
         if memory != bytes_of(self.blocks) {
             return Err(Refusal::WrongMemory);
         }
         if !is_chosen(address) {
             return Err(Refusal::WrongAddress);
-        }
-        if held {
-            return Err(Refusal::Busy);
         }
         Ok(())
     }
@@ -44,9 +41,11 @@ impl Processor {
     pub fn write(mut self, memory: &mut [u8], address: u8, value: u8) -> Answered
         ensures { outcome_of result memory.new ≡ written address value (chip self memory.old) }
     {
-        let held = is_write_held(self.busy, address, value);
-        if let Err(refusal) = self.admits(memory.len(), address, held) {
+        if let Err(refusal) = self.admits(memory.len(), address) {
             return self.answering(Err(refusal));
+        }
+        if is_write_held(self.busy, address, value) {
+            return self.answering(Err(Refusal::Busy));
         }
         execute(self.with_register(address, value), memory, address, 0)
     }
@@ -56,9 +55,11 @@ impl Processor {
     pub fn read(mut self, memory: &mut [u8], address: u8) -> Answered
         ensures { outcome_of result memory.new ≡ read_out address (chip self memory.old) }
     {
-        let held = is_read_held(self.busy, address);
-        if let Err(refusal) = self.admits(memory.len(), address, held) {
+        if let Err(refusal) = self.admits(memory.len(), address) {
             return self.answering(Err(refusal));
+        }
+        if is_read_held(self.busy, address) {
+            return self.answering(Err(Refusal::Busy));
         }
         let value = self.register(address);
         execute(self, memory, address, value)
